@@ -1,0 +1,16 @@
+//! Where bytes come from and where they go: the outside world as the programs see it, in memory and over the system.
+#![tactic(auto)]
+
+mod adapters;
+mod failed;
+mod memory;
+mod sink;
+mod source;
+#[cfg(test)]
+mod tests;
+
+pub use adapters::{Input, Output};
+pub use failed::Failed;
+pub use memory::{VecSink, VecSource};
+pub use sink::Sink;
+pub use source::Source;

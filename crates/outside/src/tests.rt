@@ -1,0 +1,93 @@
+// Sources and sinks at their types, and through their bounds.
+ghost use Rattle.std.specs.Prelude.{◌≡◌, ◌++◌, IfSome, OnOk, OnErr};
+ghost use Rattle.outside.specs.Cause.{HasCause};
+ghost use Rattle.outside.specs.Sink.{Puts, PutsFront};
+
+use crate::{Failed, Input, Output, Sink, Source, VecSink, VecSource};
+use std::alloc::Global;
+use std::test::Fail;
+
+// Reads to the end, by pieces of three bytes. `None` where memory is refused, the source fails or there is no end.
+fn read_all<S: Source>(alloc: Global, source: &mut S) -> Option<Vec<u8>>
+    ensures { IfSome result (λ bytes. IfSome (S.left source.old) (λ all. bytes.items ≡ all)) }
+{
+    let mut bytes = Vec::new(alloc);
+    let mut piece = [0; 3];
+    for _turn in 0..u64::MAX {
+        let count = source.take(&mut piece).ok()?;
+        if count == 0 {
+            return Some(bytes);
+        }
+        bytes.extend_from_slice(&piece[..count]).ok()?;
+    }
+    None
+}
+
+// Reads a source in memory to its end.
+fn read_memory(alloc: Global, bytes: Vec<u8>) -> Option<Vec<u8>>
+    ensures { IfSome result (λ all. all.items ≡ bytes.items) }
+{
+    let mut source = VecSource::new(bytes, Vec::new(alloc));
+    read_all(alloc, &mut source)
+}
+
+// Puts two pieces.
+#[tactic(auto, using(crate::specs::Sink::puts_front_first, crate::specs::Sink::puts_front_then))]
+fn put_both<S: Sink>(sink: &mut S, first: &[u8], second: &[u8]) -> Result<(), Failed>
+    ensures ok { OnOk result (Puts (S.taken sink.old) (S.taken sink.new) (first.now ++ second.now)) }
+    ensures err { OnErr result (PutsFront (S.taken sink.old) (S.taken sink.new) (first.now ++ second.now)) }
+    ensures cause { HasCause (S.faults sink.old) (S.faults sink.new) result }
+{
+    sink.put(first)?;
+    sink.put(second)
+}
+
+#[test]
+fn a_source_in_memory_gives_all_its_bytes(rt: HostRuntime) -> Result<(), Fail> {
+    let alloc = rt.alloc();
+    let bytes = read_memory(alloc, b"seven b".to_vec(alloc)?).expect(&rt, "all bytes");
+    assert_eq!(rt; bytes.as_slice(), b"seven b".as_slice());
+    Ok(())
+}
+
+#[test]
+fn a_source_in_memory_fails_at_its_second_call(rt: HostRuntime) -> Result<(), Fail> {
+    let alloc = rt.alloc();
+    let mut source = VecSource::new(b"abcd".to_vec(alloc)?, [2].to_vec(alloc)?);
+    let mut into = [0; 2];
+    assert_eq!(rt; source.take(&mut into), Ok(2));
+    assert_eq!(rt; source.take(&mut into), Err(Failed));
+    assert_eq!(rt; source.take(&mut into), Ok(2));
+    assert_eq!(rt; into, *b"cd");
+    assert_eq!(rt; source.take(&mut into), Ok(0));
+    Ok(())
+}
+
+#[test]
+fn a_sink_in_memory_keeps_all_but_the_piece_that_failed(rt: HostRuntime) -> Result<(), Fail> {
+    let alloc = rt.alloc();
+    let mut sink = VecSink::new(alloc, [3].to_vec(alloc)?);
+    put_both(&mut sink, b"ab", b"c")?;
+    assert_eq!(rt; sink.put(b"lost"), Err(Failed));
+    sink.put(b"d")?;
+    assert_eq!(rt; sink.bytes(), b"abcd".as_slice());
+    Ok(())
+}
+
+#[test]
+fn a_reader_is_a_source(rt: HostRuntime) -> Result<(), Fail> {
+    let alloc = rt.alloc();
+    let mut source = Input::new(b"read".as_slice());
+    let bytes = read_all(alloc, &mut source).expect(&rt, "all bytes");
+    assert_eq!(rt; bytes.as_slice(), b"read".as_slice());
+    Ok(())
+}
+
+#[test]
+fn a_writer_is_a_sink(rt: HostRuntime) -> Result<(), Fail> {
+    let alloc = rt.alloc();
+    let mut sink = Output::new(Vec::new(alloc));
+    put_both(&mut sink, b"wri", b"tten")?;
+    assert_eq!(rt; sink.into_inner().as_slice(), b"written".as_slice());
+    Ok(())
+}
