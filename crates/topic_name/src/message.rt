@@ -32,25 +32,26 @@ impl Model for Message {
 }
 
 impl Message {
-    /// A message of QoS 1, which never expires.
-    pub fn at_least_once(
+    /// A message that was published with QoS 0 or 1 and never expires.
+    pub fn published(
         offset: u64,
         publisher: Name,
         incarnation: u64,
+        qos: u8,
         stamp: u64,
         topic: Topic,
         props: Blob,
         body: Blob,
     ) -> Message
         requires { offset < 18446744073709551615 }
-        ensures { result ≡ record { offset = offset; publisher = publisher; incarnation = incarnation; id = 0; qos = 1; stamp = stamp; expiry = None; topic = topic; props = props; payload = body } }
+        ensures { result ≡ record { offset = offset; publisher = publisher; incarnation = incarnation; id = 0; qos = qos; stamp = stamp; expiry = None; topic = topic; props = props; payload = body } }
     {
         Message {
             offset,
             publisher,
             incarnation,
             id: 0,
-            qos: 1,
+            qos,
             stamp,
             topic,
             props,

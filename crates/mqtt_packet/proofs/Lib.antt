@@ -1,0 +1,9 @@
+pub mod Levels
+pub mod Texts
+pub mod Fields
+pub mod Frames
+pub mod Connects
+pub mod Subscribes
+pub mod Publishes
+pub mod Packets
+pub mod Prefixes

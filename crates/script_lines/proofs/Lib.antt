@@ -1,0 +1,4 @@
+pub mod NumberLemmas
+pub mod HexadecimalLemmas
+pub mod BadLineLemmas
+pub mod WordsLemmas

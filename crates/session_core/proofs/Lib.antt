@@ -1,0 +1,3 @@
+pub mod Fronts
+pub mod Batches
+pub mod Stretches

@@ -1,0 +1,17 @@
+pub mod PlainConnection
+pub mod Delivery
+pub mod Pump
+pub mod SessionStep
+pub mod SessionView
+pub mod IssuedView
+pub use Rattle.mqtt_packet.specs.Written
+pub use Rattle.mqtt_packet.specs.Reading
+pub use Rattle.session_terms.specs.PlainSession
+pub use Rattle.session_terms.specs.Change
+pub use Rattle.session_terms.specs.Entry
+pub use Rattle.session_terms.specs.IssuedPrefix
+pub use Rattle.shard_terms.specs.ShardList
+pub use Rattle.shard_terms.specs.SweepOrder
+pub use Rattle.shard_terms.specs.Wanted
+pub use Rattle.topic_name.specs.StoredMessage
+pub use Rattle.topic_name.specs.Pieces

@@ -1,0 +1,9 @@
+pub mod Entry
+pub mod PlainSession
+pub mod Change
+pub mod Unfinished
+pub mod IssuedPrefix
+pub use Rattle.shard_terms.specs.ShardList
+pub use Rattle.shard_terms.specs.Wanted
+pub use Rattle.shard_terms.specs.SweepOrder
+pub use Rattle.topic_name.specs.StoredMessage

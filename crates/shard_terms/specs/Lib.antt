@@ -1,0 +1,8 @@
+pub mod ShardList
+pub mod Wanted
+pub mod Capacity
+pub mod Streams
+pub mod SweepOrder
+pub use Rattle.topic_name.specs.Pieces
+pub use Rattle.topic_name.specs.Matching
+pub use Rattle.topic_name.specs.StoredMessage
