@@ -1,0 +1,2 @@
+pub mod BrokerView
+pub mod Outcome

@@ -1,0 +1,75 @@
+// Calls of the program on a source and a sink in memory.
+use crate::offline::run_offline;
+use outside::{VecSink, VecSource};
+use std::alloc::{AllocError, Global};
+use std::test::Fail;
+
+// The words of a text, apart.
+fn words_of(alloc: Global, text: &str) -> Result<Vec<String>, AllocError> {
+    let mut words = Vec::new(alloc);
+    for word in text.split_whitespace() {
+        words.push(String::from_str(alloc, word)?)?;
+    }
+    Ok(words)
+}
+
+// What a call ends with and what it puts. The calls of the source and of the sink with these numbers, from 1, fail.
+fn run(
+    alloc: Global,
+    words: &str,
+    script: &[u8],
+    failing_takes: &[u64],
+    failing_puts: &[u64],
+) -> Result<(u8, Vec<u8>), AllocError> {
+    let words = words_of(alloc, words)?;
+    let mut source = VecSource::new(script.to_vec(alloc)?, failing_takes.to_vec(alloc)?);
+    let mut sink = VecSink::new(alloc, failing_puts.to_vec(alloc)?);
+    let status = run_offline(alloc, &words, &mut source, &mut sink);
+    let text = sink.bytes().to_vec(alloc)?;
+    Ok((status, text))
+}
+
+#[test]
+fn an_empty_script_puts_nothing(rt: HostRuntime) -> Result<(), Fail> {
+    let (status, text) = run(rt.alloc(), "replay", b"", &[], &[])?;
+    assert_eq!(rt; status, 0);
+    assert_eq!(rt; text.as_slice(), b"".as_slice());
+    Ok(())
+}
+
+#[test]
+fn a_line_outside_the_grammar_is_told_by_its_number(rt: HostRuntime) -> Result<(), Fail> {
+    let (status, text) = run(rt.alloc(), "replay", b"open", &[], &[])?;
+    assert_eq!(rt; status, 2);
+    assert_eq!(rt; text.as_slice(), b"line 1: not a script line\n".as_slice());
+    Ok(())
+}
+
+#[test]
+fn other_words_put_the_usage(rt: HostRuntime) -> Result<(), Fail> {
+    for words in ["", "load 1 1", "replay x", "inspect d 1 1", "Replay"] {
+        let (status, text) = run(rt.alloc(), words, b"", &[], &[])?;
+        assert_eq!(rt; status, 2, "at {words}");
+        assert_eq!(rt;
+            text.as_slice(),
+            b"usage: replay | load SEED COUNT | inspect DIR S W\n".as_slice()
+        );
+    }
+    Ok(())
+}
+
+#[test]
+fn a_source_that_fails_before_its_end_puts_nothing(rt: HostRuntime) -> Result<(), Fail> {
+    let (status, text) = run(rt.alloc(), "replay", b"# a comment", &[2], &[])?;
+    assert_eq!(rt; status, 3);
+    assert_eq!(rt; text.as_slice(), b"".as_slice());
+    Ok(())
+}
+
+#[test]
+fn a_put_that_fails_is_told(rt: HostRuntime) -> Result<(), Fail> {
+    let (status, text) = run(rt.alloc(), "replay", b"pump", &[], &[1])?;
+    assert_eq!(rt; status, 4);
+    assert_eq!(rt; text.as_slice(), b"".as_slice());
+    Ok(())
+}
