@@ -1,5 +1,5 @@
 -- A count of faults that rose later.
-use Rattle.std.proofs.Common.{ℕ, ◌+◌, ◌-◌, ◌^◌, ◌<◌, ◌≤◌, ◌≡◌, ◌⊎◌, inl, inr, arith}
+use Rattle.std.proofs.Common.{ℕ, ◌≤◌, inl, inr, arith}
 use Rattle.outside.specs.Cause.{Rose}
 
 -- it rose from what it was before, too

@@ -1,5 +1,5 @@
 -- The first session of a client, and the connection of a number, by their places.
-use Rattle.std.proofs.Common.{◌≡◌, ◌≢◌, ℕ, zero, suc, ◌+◌, ◌<◌, ◌≤◌, Bool, true, false, cond, eqb, List, [], ◌∷◌, length, get_or, set, Option, Some, None, refl, sym, ap, subst, ◌∙◌, arith, eq-eqb}
+use Rattle.std.proofs.Common.{◌≡◌, ◌≢◌, ℕ, zero, suc, ◌<◌, ◌≤◌, Bool, true, false, eqb, List, [], ◌∷◌, length, get_or, set, Option, Some, None, refl, sym, ap, subst, ◌∙◌, arith, eq-eqb}
 use Rattle.std.specs.Prelude.{slice_get, IfSome}
 use Rattle.std.specs.List.{find}
 use Rattle.std.specs.Str.{bytes_eq}
@@ -8,7 +8,7 @@ use Rattle.std.proofs.lemmas.Slice.Eq.{bytes_eq-Decides}
 use Rattle.session_terms.specs.PlainSession.{PlainSession}
 use Rattle.session_terms.specs.Change.{session_of, on_session, act_all, parted_session}
 use Rattle.session_core.specs.PlainConnection.{PlainConnection}
-use Rattle.world_terms.specs.Move.{connection_at, change_connection, owed_by}
+use Rattle.world_terms.specs.Move.{change_connection, owed_by}
 use Rattle.broker_main.specs.BrokerView.{IsSessionPlace, IsConnectionPlace}
 
 -- the first place that passes a test is where the first element that passes it is found
@@ -39,7 +39,7 @@ if_there o x P e h = subst (λ q. IfSome q P) (sym e) h
 
 -- a change of the connection with a number is a write at its place
 changed_connection : (f : PlainConnection → PlainConnection) (connections : List PlainConnection) (number i : ℕ) (d : PlainConnection) → i < length connections → (get_or connections i d).number ≡ number → ((j : ℕ) → j < i → (get_or connections j d).number ≢ number)
-  → change_connection number f connections ≡ set connections i (f (get_or connections i d))
+    → change_connection number f connections ≡ set connections i (f (get_or connections i d))
 changed_connection f [] number i d lt same before = absurd (omega arith)
 changed_connection f (k ∷ ks) number zero d lt same before = let test : eqb k.number number ≡ true = eq-eqb k.number number same in rw test refl
 changed_connection f (k ∷ ks) number (suc i) d lt same before =
@@ -63,7 +63,7 @@ no_connection connections number before =
 
 -- a change of the session of a client is a write at its place
 changed_session : (f : PlainSession → PlainSession) (sessions : List PlainSession) (client : List ℕ) (i : ℕ) (d : PlainSession) → i < length sessions → bytes_eq (get_or sessions i d).client client ≡ true → ((j : ℕ) → j < i → bytes_eq (get_or sessions j d).client client ≡ false)
-  → on_session client f sessions ≡ set sessions i (f (get_or sessions i d))
+    → on_session client f sessions ≡ set sessions i (f (get_or sessions i d))
 changed_session f [] client i d lt same before = absurd (omega arith)
 changed_session f (m ∷ ms) client zero d lt same before = rw same refl
 changed_session f (m ∷ ms) client (suc i) d lt same before =
@@ -77,7 +77,7 @@ session_here sessions client i m lt here same before =
     record {
       found = found_at (λ (x : PlainSession). bytes_eq x.client client) sessions i m lt same_there (λ j l. before j m l);
       changed = λ f. if_there _ m _ (there sessions i m lt here)
-        (ap (λ (c : List ℕ). on_session c f sessions) its_client ∙ changed_session f sessions client i m lt same_there (λ j l. before j m l) ∙ ap (λ (x : PlainSession). set sessions i (f x)) (sym here));
+          (ap (λ (c : List ℕ). on_session c f sessions) its_client ∙ changed_session f sessions client i m lt same_there (λ j l. before j m l) ∙ ap (λ (x : PlainSession). set sessions i (f x)) (sym here));
     }
 
 pub no_session : (sessions : List PlainSession) (client : List ℕ) → ((j : ℕ) (d : PlainSession) → j < length sessions → bytes_eq (get_or sessions j d).client client ≡ false) → IsSessionPlace sessions client (length sessions)
@@ -86,11 +86,11 @@ no_session sessions client before =
 
 -- the session at a client's place is parted
 pub parts : (sessions : List PlainSession) (client : List ℕ) (place : ℕ) (m : PlainSession) → IsSessionPlace sessions client place → slice_get sessions place ≡ Some m
-  → set sessions place (parted_session m.expiry 0 m) ≡ act_all sessions (owed_by (session_of client sessions) 0)
+    → set sessions place (parted_session m.expiry 0 m) ≡ act_all sessions (owed_by (session_of client sessions) 0)
 parts sessions client place m p here =
     let there_is : session_of client sessions ≡ Some m = p.found ∙ here in
     let written : on_session m.client (parted_session m.expiry 0) sessions ≡ set sessions place (parted_session m.expiry 0 m) =
-      subst (λ (o : Option PlainSession). IfSome o (λ (x : PlainSession). on_session x.client (parted_session m.expiry 0) sessions ≡ set sessions place (parted_session m.expiry 0 x))) here (p.changed (parted_session m.expiry 0)) in
+    subst (λ (o : Option PlainSession). IfSome o (λ (x : PlainSession). on_session x.client (parted_session m.expiry 0) sessions ≡ set sessions place (parted_session m.expiry 0 x))) here (p.changed (parted_session m.expiry 0)) in
     sym written ∙ ap (λ (o : Option PlainSession). act_all sessions (owed_by o 0)) (sym there_is)
 
 -- and where the client has none nothing changes

@@ -1,5 +1,5 @@
 -- What was put of a text so far.
-use Rattle.std.proofs.Common.{ℕ, ◌≤◌, ◌≡◌, List, [], ◌∷◌, ◌++◌, Result, Ok, Err, OnErr, length, take, Option, Some, None, arith, refl, sym, subst, ap, ◌∙◌, append_assoc, append-nil}
+use Rattle.std.proofs.Common.{ℕ, ◌≡◌, List, [], ◌∷◌, ◌++◌, Result, Ok, Err, OnErr, Option, Some, None, arith, refl, sym, subst, ap, ◌∙◌, append_assoc, append-nil}
 use Rattle.world_terms.specs.PlainBroker.{PlainBroker, plain_step, plain_text}
 use Rattle.world_terms.specs.Run.{line_or_nothing}
 use Rattle.world_terms.specs.Script.{line_of, line_texts}

@@ -1,17 +1,13 @@
 -- A SUBSCRIBE of one filter.
-use Rattle.std.proofs.Common.{◌≡◌, ℕ, zero, suc, ◌+◌, List, [], ◌∷◌, ◌++◌, length, get_or, map, Option, Some, None, refl, sym, ap, subst, ◌∙◌, arith}
+use Rattle.std.proofs.Common.{◌≡◌, ℕ, ◌+◌, List, [], ◌∷◌, length, get_or, Option, Some, None, sym, ap, ◌∙◌, arith}
 use Rattle.std.specs.Prelude.{slice_get, slice_set, IfSome}
 use Rattle.topic_name.specs.Pieces.{levels_of}
-use Rattle.topic_name.specs.StoredMessage.{StoredMessage}
 use Rattle.session_terms.specs.PlainSession.{PlainSession}
 use Rattle.session_terms.specs.Change.{on_session, subscribed_session}
 use Rattle.mqtt_packet.specs.declared.packet.Wish.{Wish}
-use Rattle.mqtt_packet.specs.declared.packet.Packet.TheVariants.{Subscribe, Suback}
-use Rattle.session_core.specs.PlainConnection.{PlainConnection}
+use Rattle.mqtt_packet.specs.declared.packet.Packet.TheVariants.{Subscribe}
 use Rattle.session_core.specs.SessionStep.{granted}
 use Rattle.session_core.specs.SessionView.{sweep_of}
-use Rattle.world_terms.specs.Move.{Sent}
-use Rattle.world_terms.specs.Text.{text_of_outs}
 use Rattle.world_terms.specs.PlainBroker.{PlainBroker, taken}
 use Rattle.broker_main.specs.BrokerView.{IsWrittenAt}
 
@@ -28,31 +24,31 @@ with_subscription p m options filter next =
 
 -- the broker where a session at a place was written so
 subscribed_some : (p : PlainBroker) (place number id : ℕ) (filters : List Wish) (wish : Wish) (options : ℕ) (filter : List (List ℕ)) (next : ℕ) (after : List PlainSession) (m : PlainSession)
-  → filters ≡ wish ∷ [] → options ≡ wish.options → filter ≡ levels_of wish.filter → next ≡ 0 + length p.messages
-  → ((f : PlainSession → PlainSession) → on_session m.client f p.sessions ≡ slice_set p.sessions place (f m))
-  → after ≡ slice_set p.sessions place (subscribed_session (length m.subscriptions + 1) (length m.versions + 1) options 0 filter (sweep_of next next next ∷ []) m)
-  → record p { sessions = after } ≡ (taken number (Subscribe id [] filters) m p).broker
+    → filters ≡ wish ∷ [] → options ≡ wish.options → filter ≡ levels_of wish.filter → next ≡ 0 + length p.messages
+    → ((f : PlainSession → PlainSession) → on_session m.client f p.sessions ≡ slice_set p.sessions place (f m))
+    → after ≡ slice_set p.sessions place (subscribed_session (length m.subscriptions + 1) (length m.versions + 1) options 0 filter (sweep_of next next next ∷ []) m)
+    → record p { sessions = after } ≡ (taken number (Subscribe id [] filters) m p).broker
 unfolding with_subscription
 subscribed_some p place number id filters wish options filter next after m fs os ls ns written h =
     let changed = h ∙ sym (written (subscribed_session (length m.subscriptions + 1) (length m.versions + 1) options 0 filter (sweep_of next next next ∷ []))) in
     let same : with_subscription p m options filter next ≡ with_subscription p m wish.options (levels_of wish.filter) (0 + length p.messages) =
-      ap (λ (o : ℕ). with_subscription p m o filter next) os ∙ ap (λ (l : List (List ℕ)). with_subscription p m wish.options l next) ls ∙ ap (λ (n : ℕ). with_subscription p m wish.options (levels_of wish.filter) n) ns in
+    ap (λ (o : ℕ). with_subscription p m o filter next) os ∙ ap (λ (l : List (List ℕ)). with_subscription p m wish.options l next) ls ∙ ap (λ (n : ℕ). with_subscription p m wish.options (levels_of wish.filter) n) ns in
     ap (λ (sessions : List PlainSession). record p { sessions = sessions }) changed ∙ same ∙ ap (λ (ws : List Wish). (taken number (Subscribe id [] ws) m p).broker) (sym fs)
 
 -- the same of a session that may be there
 subscribed_option : (p : PlainBroker) (place number id : ℕ) (filters : List Wish) (wish : Wish) (options : ℕ) (filter : List (List ℕ)) (next : ℕ) (after : List PlainSession) (found : Option PlainSession)
-  → filters ≡ wish ∷ [] → options ≡ wish.options → filter ≡ levels_of wish.filter → next ≡ 0 + length p.messages
-  → ((f : PlainSession → PlainSession) → IfSome found (λ (m : PlainSession). on_session m.client f p.sessions ≡ slice_set p.sessions place (f m)))
-  → IfSome found (λ (m : PlainSession). after ≡ slice_set p.sessions place (subscribed_session (length m.subscriptions + 1) (length m.versions + 1) options 0 filter (sweep_of next next next ∷ []) m))
-  → IfSome found (λ (m : PlainSession). record p { sessions = after } ≡ (taken number (Subscribe id [] filters) m p).broker)
+    → filters ≡ wish ∷ [] → options ≡ wish.options → filter ≡ levels_of wish.filter → next ≡ 0 + length p.messages
+    → ((f : PlainSession → PlainSession) → IfSome found (λ (m : PlainSession). on_session m.client f p.sessions ≡ slice_set p.sessions place (f m)))
+    → IfSome found (λ (m : PlainSession). after ≡ slice_set p.sessions place (subscribed_session (length m.subscriptions + 1) (length m.versions + 1) options 0 filter (sweep_of next next next ∷ []) m))
+    → IfSome found (λ (m : PlainSession). record p { sessions = after } ≡ (taken number (Subscribe id [] filters) m p).broker)
 subscribed_option p place number id filters wish options filter next after None fs os ls ns written h = tt
 subscribed_option p place number id filters wish options filter next after (Some m) fs os ls ns written h = subscribed_some p place number id filters wish options filter next after m fs os ls ns written h
 
 -- the subscription that a SUBSCRIBE asks for, with the session at its place
 pub subscribed_at : (p : PlainBroker) (place number id : ℕ) (filters : List Wish) (wish : Wish) (options : ℕ) (filter : List (List ℕ)) (next : ℕ) (after : List PlainSession)
-  → filters ≡ wish ∷ [] → options ≡ wish.options → filter ≡ levels_of wish.filter → next ≡ 0 + length p.messages → IsWrittenAt p.sessions place
-  → IfSome (slice_get p.sessions place) (λ (m : PlainSession). after ≡ slice_set p.sessions place (subscribed_session (length m.subscriptions + 1) (length m.versions + 1) options 0 filter (sweep_of next next next ∷ []) m))
-  → IfSome (slice_get p.sessions place) (λ (m : PlainSession). record p { sessions = after } ≡ (taken number (Subscribe id [] filters) m p).broker)
+    → filters ≡ wish ∷ [] → options ≡ wish.options → filter ≡ levels_of wish.filter → next ≡ 0 + length p.messages → IsWrittenAt p.sessions place
+    → IfSome (slice_get p.sessions place) (λ (m : PlainSession). after ≡ slice_set p.sessions place (subscribed_session (length m.subscriptions + 1) (length m.versions + 1) options 0 filter (sweep_of next next next ∷ []) m))
+    → IfSome (slice_get p.sessions place) (λ (m : PlainSession). record p { sessions = after } ≡ (taken number (Subscribe id [] filters) m p).broker)
 subscribed_at p place number id filters wish options filter next after fs os ls ns written h = subscribed_option p place number id filters wish options filter next after (slice_get p.sessions place) fs os ls ns written h
 
 -- what is granted of one filter

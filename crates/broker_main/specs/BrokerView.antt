@@ -1,5 +1,5 @@
 -- What the broker's steps are made of, over its lists.
-use Rattle.std.specs.Prelude.{ℕ, ◌≡◌, Bool, false, List, [], ◌∷◌, slice_get, slice_set, Option, Some, None, IfSome}
+use Rattle.std.specs.Prelude.{ℕ, ◌≡◌, false, List, slice_get, slice_set, Some, None, IfSome}
 use Rattle.session_terms.specs.PlainSession.{PlainSession}
 use Rattle.session_terms.specs.Change.{session_of, on_session}
 use Rattle.session_core.specs.PlainConnection.{PlainConnection}

@@ -1,6 +1,6 @@
 -- What a call of the program puts out.
-use Rattle.std.specs.Prelude.{ℕ, ◌+◌, ◌<◌, ◌≤◌, ◌≡◌, ◌≢◌, Bool, true, false, ◌==◌, nat_lt, if◌then◌else◌, List, [], ◌∷◌, ◌++◌, codes, length, ◌⊎◌, Option, Some, None, ⊤, IsSome, IfSome}
-use Rattle.std.specs.Fmt.{decimal}
+use Rattle.std.specs.Prelude.{ℕ, ◌<◌, ◌≡◌, Bool, false, nat_lt, if◌then◌else◌, List, [], ◌∷◌, ◌++◌, codes, length, ◌⊎◌, Option, Some, None, ⊤, IsSome, IfSome, refl}
+use Rattle.std.specs.Fmt.{decimal, digits}
 use Rattle.std.specs.Str.{bytes_eq}
 use Rattle.world_terms.specs.Script.{line_texts, first_bad_line}
 use Rattle.world_terms.specs.Run.{text_of_script}
@@ -49,6 +49,17 @@ text_or_run script (Some text) = text
 
 abbrev pub whole_text : List (List ℕ) → List ℕ → List ℕ
 whole_text words script = text_or_run script (refusal_text words script)
+
+-- the words are looked at first, and a script with a bad line isn't run
+other_words : whole_text (codes "load" ∷ codes "1" ∷ []) (codes "open 1") ≡ usage_text
+other_words = refl
+
+bad_line : whole_text (codes "replay" ∷ []) (codes "open 1" ++ 10 ∷ (codes "ping 1" ++ 10 ∷ codes "close")) ≡ codes "line 2: not a script line" ++ 10 ∷ []
+unfolding digits
+bad_line = refl
+
+opened : whole_text (codes "replay" ∷ []) (codes "open 1" ++ 10 ∷ codes "pump 1") ≡ []
+opened = refl
 
 -- why a source wasn't read to its end: what was left was too long, where that was told, or the source failed
 abbrev pub StopsReading : ReadStopped → Option (List ℕ) → ℕ → ℕ → Type 0

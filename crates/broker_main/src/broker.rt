@@ -113,7 +113,12 @@ impl Broker {
     }
 
     // A connection is closed before it was bound, with nothing written.
-    fn turn_away(&mut self, alloc: Global, number: u16, text: &mut Vec<u8>) -> Result<(), AllocError>
+    fn turn_away(
+        &mut self,
+        alloc: Global,
+        number: u16,
+        text: &mut Vec<u8>,
+    ) -> Result<(), AllocError>
         ensures broker { OnOk result (self.new ≡ (turned_away number self.old).broker) }
         ensures text { OnOk result (text.new.items ≡ text.old.items ++ text_of_outs (turned_away number self.old).outs) }
     {
@@ -160,8 +165,10 @@ impl Broker {
         let name = client.copy()?;
         let incarnation = self.sessions.len() as u64 + 1;
         let expiry = four_in(props.list(), 17, 0);
-        self.connections.push(Connection::bound(number, name, keep_alive, props, 0))?;
-        self.sessions.push(Session::begun(alloc, client, incarnation, expiry))?;
+        self.connections
+            .push(Connection::bound(number, name, keep_alive, props, 0))?;
+        self.sessions
+            .push(Session::begun(alloc, client, incarnation, expiry))?;
         remove_number(&mut self.lobby, number);
         put_answer(alloc, number, make_connack(alloc)?, text)
     }
@@ -178,9 +185,17 @@ impl Broker {
         ensures text { OnOk result (text.new.items ≡ text.old.items ++ text_of_outs (first_packet number packet self.old).outs) }
     {
         match packet {
-            Some(Packet::Connect { clean: _, keep_alive, props, client, will: _, user: _, password: _ }) => {
-                self.connect(alloc, number, client, keep_alive, &props, text)
-            }
+            Some(
+                Packet::Connect {
+                    clean: _,
+                    keep_alive,
+                    props,
+                    client,
+                    will: _,
+                    user: _,
+                    password: _,
+                },
+            ) => { self.connect(alloc, number, client, keep_alive, &props, text) }
             other => {
                 drop(other);
                 self.turn_away(alloc, number, text)
@@ -204,7 +219,13 @@ impl Broker {
         ensures broker { OnOk result (IfSome (slice_get self.old.sessions place) (λ (m : PlainSession). self.new ≡ record self.old { messages = (store (list_with self.old.messages) (Store (published m qos topic payload) ∷ []) 0).messages })) }
         ensures text { OnOk result (text.new.items ≡ text.old.items ++ text_of_outs (Sent number (Puback id 0 []) ∷ [])) }
     {
-        store_message(&mut self.messages, &self.sessions[place], qos, topic, payload)?;
+        store_message(
+            &mut self.messages,
+            &self.sessions[place],
+            qos,
+            topic,
+            payload,
+        )?;
         let answer = Packet::Puback {
             id,
             reason: 0,
@@ -257,12 +278,20 @@ impl Broker {
         ensures text { OnOk result (IfSome (slice_get self.old.sessions place) (λ (m : PlainSession). text.new.items ≡ text.old.items ++ text_of_outs (taken number packet m self.old).outs)) }
     {
         match packet {
-            Packet::Publish { dup: _, qos, retain: _, topic, id, props: _, payload } => {
-                self.publish(alloc, number, place, id, qos, topic, payload, text)
-            }
-            Packet::Subscribe { id, props: _, filters } => {
-                self.subscribe(alloc, number, place, id, filters, text)
-            }
+            Packet::Publish {
+                dup: _,
+                qos,
+                retain: _,
+                topic,
+                id,
+                props: _,
+                payload,
+            } => { self.publish(alloc, number, place, id, qos, topic, payload, text) }
+            Packet::Subscribe {
+                id,
+                props: _,
+                filters,
+            } => { self.subscribe(alloc, number, place, id, filters, text) }
             other => {
                 drop(other);
                 Ok(())
@@ -352,7 +381,12 @@ impl Broker {
         if place >= self.sessions.len() {
             return Ok(());
         }
-        let found = pump(alloc, &self.sessions[place], &self.connections[at], &self.messages)?;
+        let found = pump(
+            alloc,
+            &self.sessions[place],
+            &self.connections[at],
+            &self.messages,
+        )?;
         let Some(issued) = found else {
             return Ok(());
         };
@@ -378,7 +412,11 @@ impl Broker {
 }
 
 // The session at this place was issued this.
-fn issue_session(sessions: &mut Vec<Session>, place: usize, issued: &Issued) -> Result<(), AllocError>
+fn issue_session(
+    sessions: &mut Vec<Session>,
+    place: usize,
+    issued: &Issued,
+) -> Result<(), AllocError>
     requires { place < length sessions.old.items }
     ensures { OnOk result (IfSome (slice_get sessions.old.items place) (λ (m : PlainSession). sessions.new.items ≡ slice_set sessions.old.items place (issued_session 1 0 (issue_of_fields issued.now).entries (issue_of_fields issued.now).sweep m))) }
 {
@@ -396,7 +434,12 @@ fn spend_connection(connections: &mut Vec<Connection>, place: usize, issued: &Is
 }
 
 // The lines of packets of one connection.
-fn put_packets(alloc: Global, number: u16, packets: &[Packet], text: &mut Vec<u8>) -> Result<(), AllocError>
+fn put_packets(
+    alloc: Global,
+    number: u16,
+    packets: &[Packet],
+    text: &mut Vec<u8>,
+) -> Result<(), AllocError>
     ensures { OnOk result (text.new.items ≡ text.old.items ++ text_of_outs (sent_on number packets.now)) }
 {
     for packet in packets {
@@ -415,7 +458,13 @@ fn only_wish(filters: &Wishes) -> &Wish
 }
 
 // The session at this place subscribes from an offset on.
-fn subscribe_session(sessions: &mut Vec<Session>, place: usize, filter: Filter, options: u8, next: u64)
+fn subscribe_session(
+    sessions: &mut Vec<Session>,
+    place: usize,
+    filter: Filter,
+    options: u8,
+    next: u64,
+)
     requires within { place < length sessions.old.items }
     requires none { IfSome (slice_get sessions.old.items place) (λ (m : PlainSession). m.subscriptions ≡ []) }
     ensures { IfSome (slice_get sessions.old.items place) (λ (m : PlainSession). sessions.new.items ≡ slice_set sessions.old.items place (subscribed_session (length m.subscriptions + 1) (length m.versions + 1) options 0 filter (sweep_of next next next ∷ []) m)) }
@@ -436,7 +485,12 @@ fn make_suback(alloc: Global, id: u16, options: u8) -> Result<Packet, AllocError
 }
 
 // The line of one packet.
-fn put_answer(alloc: Global, number: u16, packet: Packet, text: &mut Vec<u8>) -> Result<(), AllocError>
+fn put_answer(
+    alloc: Global,
+    number: u16,
+    packet: Packet,
+    text: &mut Vec<u8>,
+) -> Result<(), AllocError>
     ensures { OnOk result (text.new.items ≡ text.old.items ++ text_of_outs (Sent number packet ∷ [])) }
 {
     let done = put_sent(alloc, number, &packet, text);
@@ -460,7 +514,16 @@ fn store_message(
     let incarnation = session.incarnation();
     let offset = messages.len() as u64;
     let topic = Topic::of(topic);
-    let message = Message::published(offset, publisher, incarnation, qos, 0, topic, Blob::empty(), payload);
+    let message = Message::published(
+        offset,
+        publisher,
+        incarnation,
+        qos,
+        0,
+        topic,
+        Blob::empty(),
+        payload,
+    );
     messages.push(message)?;
     Ok(())
 }

@@ -4,6 +4,29 @@ use outside::{VecSink, VecSource};
 use std::alloc::{AllocError, Global};
 use std::test::Fail;
 
+// A client connects, with Session Expiry Interval 3600, and what it is answered.
+const CONNECTS: &[u8] = b"open 1\nsend 1 101300044D5154540500003C051100000E10000161\n";
+
+const CONNACK: &[u8] = b"1< 200F00000C210020250027001000002A00\n";
+
+// One client subscribes to a/b, and another one publishes hi there.
+const FIRST_PUBLISH: &[u8] = b"open 1
+send 1 101300044D5154540500003C051100000E10000161
+send 1 82090001000003612F6201
+open 2
+send 2 101300044D5154540500003C051100000E10000170
+send 2 320A0003612F620007006869
+pump 1
+pump 1
+";
+
+const FIRST_PUBLISH_TEXT: &[u8] = b"1< 200F00000C210020250027001000002A00
+1< 900400010001
+2< 200F00000C210020250027001000002A00
+2< 40020007
+1< 320A0003612F620001006869
+";
+
 // The words of a text, apart.
 fn words_of(alloc: Global, text: &str) -> Result<Vec<String>, AllocError> {
     let mut words = Vec::new(alloc);
@@ -30,10 +53,46 @@ fn run(
 }
 
 #[test]
-fn an_empty_script_puts_nothing(rt: HostRuntime) -> Result<(), Fail> {
+fn connects(rt: HostRuntime) -> Result<(), Fail> {
+    let (status, text) = run(rt.alloc(), "replay", CONNECTS, &[], &[])?;
+    assert_eq!(rt; status, 0);
+    assert_eq!(rt; text.as_slice(), CONNACK);
+    Ok(())
+}
+
+#[test]
+fn first_publish(rt: HostRuntime) -> Result<(), Fail> {
+    let (status, text) = run(rt.alloc(), "replay", FIRST_PUBLISH, &[], &[])?;
+    assert_eq!(rt; status, 0);
+    assert_eq!(rt; text.as_slice(), FIRST_PUBLISH_TEXT);
+    Ok(())
+}
+
+#[test]
+fn ping_before_connect(rt: HostRuntime) -> Result<(), Fail> {
+    let (status, text) = run(rt.alloc(), "replay", b"open 1\nsend 1 C000\n", &[], &[])?;
+    assert_eq!(rt; status, 0);
+    assert_eq!(rt; text.as_slice(), b"1 closed\n".as_slice());
+    Ok(())
+}
+
+#[test]
+fn empty_script(rt: HostRuntime) -> Result<(), Fail> {
     let (status, text) = run(rt.alloc(), "replay", b"", &[], &[])?;
     assert_eq!(rt; status, 0);
     assert_eq!(rt; text.as_slice(), b"".as_slice());
+    Ok(())
+}
+
+#[test]
+fn later_packet_closes(rt: HostRuntime) -> Result<(), Fail> {
+    let script = b"open 1\nsend 1 101300044D5154540500003C051100000E10000161\nsend 1 C000\n";
+    let (status, text) = run(rt.alloc(), "replay", script, &[], &[])?;
+    assert_eq!(rt; status, 0);
+    assert_eq!(rt;
+        text.as_slice(),
+        b"1< 200F00000C210020250027001000002A00\n1< E00183\n1 closed\n".as_slice()
+    );
     Ok(())
 }
 
@@ -63,6 +122,14 @@ fn a_source_that_fails_before_its_end_puts_nothing(rt: HostRuntime) -> Result<()
     let (status, text) = run(rt.alloc(), "replay", b"# a comment", &[2], &[])?;
     assert_eq!(rt; status, 3);
     assert_eq!(rt; text.as_slice(), b"".as_slice());
+    Ok(())
+}
+
+#[test]
+fn a_put_that_fails_leaves_the_front(rt: HostRuntime) -> Result<(), Fail> {
+    let (status, text) = run(rt.alloc(), "replay", FIRST_PUBLISH, &[], &[2])?;
+    assert_eq!(rt; status, 4);
+    assert_eq!(rt; text.as_slice(), CONNACK);
     Ok(())
 }
 

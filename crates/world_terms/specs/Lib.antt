@@ -7,6 +7,7 @@ pub mod Run
 pub mod PlainBroker
 pub mod Laws
 pub mod Examples
+pub mod Stages
 pub use Rattle.session_core.specs.PlainConnection
 pub use Rattle.session_core.specs.Delivery
 pub use Rattle.session_core.specs.Pump

@@ -1,5 +1,4 @@
-use Rattle.std.proofs.Common.{◌≡◌, ◌<◌, ◌≤◌, ℕ, List, length, set, Some, sym, ap, subst, ◌∙◌, arith}
-use Rattle.std.specs.Prelude.{slice_get}
+use Rattle.std.proofs.Common.{◌<◌, ◌≤◌, ℕ, List, length, set, ap, subst, ◌∙◌, arith}
 use Rattle.session_terms.specs.PlainSession.{PlainSession}
 use Rattle.session_terms.specs.Change.{parted_session}
 use Rattle.broker_main.specs.BrokerView.{IsSessionPlace}

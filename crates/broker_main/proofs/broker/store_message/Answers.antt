@@ -1,7 +1,7 @@
-use Rattle.std.proofs.Common.{◌≡◌, ◌+◌, List, [], ◌∷◌, ◌++◌, ℕ, length, sym, ap, subst, ◌∙◌, arith}
+use Rattle.std.proofs.Common.{◌≡◌, ◌+◌, [], ◌∷◌, ◌++◌, length, sym, ap, subst, ◌∙◌, arith}
 use Rattle.topic_name.specs.StoredMessage.{StoredMessage}
 use Rattle.session_core.specs.SessionView.{HasOffsets}
-use Rattle.broker_main.proofs.Stored.{stored_message, offsets_push, message_at, same_message}
+use Rattle.broker_main.proofs.Stored.{stored_message, offsets_push, same_message}
 use Rattle.broker_main.proofs.broker.store_message.Goals as goal
 
 pub returns-clause-stored : goal.returns-clause-stored

@@ -1,4 +1,4 @@
-use Rattle.std.proofs.Common.{◌≡◌, ◌≢◌, ℕ, ◌<◌, get_or}
+use Rattle.std.proofs.Common.{◌≢◌, ℕ, ◌<◌, get_or}
 use Rattle.session_core.specs.PlainConnection.{PlainConnection}
 use Rattle.broker_main.proofs.finding.place_of_connection.Given as goal
 

@@ -1,8 +1,6 @@
 -- A turn reads one more piece of what was left.
-use Rattle.std.proofs.Common.{ℕ, ◌+◌, ◌<◌, ◌≡◌, ◌++◌, length, take, length-take, subst, sym, ap, ◌∙◌, arith}
-use Rattle.std.proofs.lemmas.Grind.{common_steps}
-use Rattle.std.specs.Io.KnownBytes.{Consumes, IsAtEnd}
-use Rattle.broker_main.specs.Outcome.{script_limit}
+use Rattle.std.proofs.Common.{◌≡◌, ◌++◌, take, length-take, subst, sym, arith}
+use Rattle.std.specs.Io.KnownBytes.{Consumes}
 use Rattle.broker_main.proofs.ReadingLemmas.{appended, reads_more, reads_all, leaves_nothing, was_too_long}
 use Rattle.broker_main.proofs.reading.read_script.Goals as goal
 

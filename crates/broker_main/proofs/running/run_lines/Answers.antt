@@ -1,5 +1,5 @@
 -- A turn puts what the next line prints.
-use Rattle.std.proofs.Common.{◌≡◌, ℕ, List, [], ◌∷◌, Option, None, Some, Bor, ap, ◌∙◌, arith}
+use Rattle.std.proofs.Common.{ℕ, List, [], ◌∷◌, Option, Bor, ap, ◌∙◌, arith}
 use Rattle.std.specs.Option.{option_copied}
 use Rattle.topic_name.specs.Pieces.{pieces_after}
 use Rattle.broker_main.proofs.RunningLemmas.{next_line, more_lines, all_put, front_put, on_err}

@@ -1,15 +1,14 @@
-use Rattle.std.proofs.Common.{◌≡◌, ◌<◌, ◌++◌, List, [], ◌∷◌, Option, Some, length, sym, ap, subst, ◌∙◌, arith}
+use Rattle.std.proofs.Common.{◌≡◌, ◌<◌, ◌++◌, List, [], ◌∷◌, Some, length, sym, ap, subst, ◌∙◌, arith}
 use Rattle.std.specs.Prelude.{slice_get}
 use Rattle.std.specs.Option.{option_map}
 use Rattle.topic_name.specs.StoredMessage.{StoredMessage}
 use Rattle.session_core.specs.PlainConnection.{PlainConnection}
-use Rattle.session_core.specs.declared.issued.Issued.{Issued}
-use Rattle.session_core.specs.Pump.{Issue, pump_of}
+use Rattle.session_core.specs.Pump.{pump_of}
 use Rattle.session_core.specs.IssuedView.{issue_of_fields}
 use Rattle.mqtt_packet.specs.declared.packet.Packet.{Packet}
-use Rattle.world_terms.specs.Move.{connection_at, sent_on}
+use Rattle.world_terms.specs.Move.{sent_on}
 use Rattle.world_terms.specs.Text.{text_of_outs}
-use Rattle.world_terms.specs.PlainBroker.{PlainBroker, Step, pumped, session_on, list_with}
+use Rattle.world_terms.specs.PlainBroker.{PlainBroker, Step, session_on, list_with}
 use Rattle.broker_main.specs.BrokerView.{IsConnectionPlace, IsWrittenAt}
 use Rattle.broker_main.proofs.Places.{there}
 use Rattle.broker_main.proofs.Pumping.{pumped_step, pumped_broker}
@@ -29,10 +28,10 @@ returns-clause-broker c =
     let found : session_on p c.args.number ≡ slice_get p.sessions place = subst (λ (q : PlainBroker). session_on q c.args.number ≡ slice_get q.sessions place) (sym c.self.view_is) c.session_place-place.ensures.found in
     let written : IsWrittenAt p.sessions place = subst (λ (q : PlainBroker). IsWrittenAt q.sessions place) (sym c.self.view_is) c.session_place-place.ensures.written in
     let issue : pump_of c.index.result.now c.index-2.result.now (list_with p.messages ∷ []) ≡ Some (issue_of_fields c.in-Some.issued) =
-      ap (λ (l : List StoredMessage). pump_of c.index.result.now c.index-2.result.now (list_with l ∷ [])) (sym c.deref-2.ensures.value) ∙ sym c.in_ok-found.ensures ∙ ap (option_map issue_of_fields) c.in-Some.is in
+    ap (λ (l : List StoredMessage). pump_of c.index.result.now c.index-2.result.now (list_with l ∷ [])) (sym c.deref-2.ensures.value) ∙ sym c.in_ok-found.ensures ∙ ap (option_map issue_of_fields) c.in-Some.is in
     rw (← c.self.view_is)
-      (pumped_broker p c.args.number at place c.index-2.result.now c.index.result.now c.in-Some.issued c.issue_session.new.sessions.items c.spend_connection.new.connections.items here ck sm written c.in_ok-issue_session.ensures c.spend_connection.ensures
-        ∙ ap (λ (s : Step). s.broker) (sym (pumped_step p c.args.number at place c.index-2.result.now c.index.result.now c.in-Some.issued here ck found sm issue)))
+    (pumped_broker p c.args.number at place c.index-2.result.now c.index.result.now c.in-Some.issued c.issue_session.new.sessions.items c.spend_connection.new.connections.items here ck sm written c.in_ok-issue_session.ensures c.spend_connection.ensures
+    ∙ ap (λ (s : Step). s.broker) (sym (pumped_step p c.args.number at place c.index-2.result.now c.index.result.now c.in-Some.issued here ck found sm issue)))
 
 pub returns-clause-text : goal.returns-clause-text
 returns-clause-text c =
@@ -47,8 +46,8 @@ returns-clause-text c =
     let sm = there p.sessions place c.index.result.now within_sessions c.index.ensures in
     let found : session_on p c.args.number ≡ slice_get p.sessions place = subst (λ (q : PlainBroker). session_on q c.args.number ≡ slice_get q.sessions place) (sym c.self.view_is) c.session_place-place.ensures.found in
     let issue : pump_of c.index.result.now c.index-2.result.now (list_with p.messages ∷ []) ≡ Some (issue_of_fields c.in-Some.issued) =
-      ap (λ (l : List StoredMessage). pump_of c.index.result.now c.index-2.result.now (list_with l ∷ [])) (sym c.deref-2.ensures.value) ∙ sym c.in_ok-found.ensures ∙ ap (option_map issue_of_fields) c.in-Some.is in
+    ap (λ (l : List StoredMessage). pump_of c.index.result.now c.index-2.result.now (list_with l ∷ [])) (sym c.deref-2.ensures.value) ∙ sym c.in_ok-found.ensures ∙ ap (option_map issue_of_fields) c.in-Some.is in
     rw (← c.self.view_is)
-      (c.in_ok-put_packets.ensures
-        ∙ ap (λ (packets : List Packet). c.args.text.now.items ++ text_of_outs (sent_on c.args.number packets)) c.deref-3.ensures.value
-        ∙ ap (λ (s : Step). c.args.text.now.items ++ text_of_outs s.outs) (sym (pumped_step p c.args.number at place c.index-2.result.now c.index.result.now c.in-Some.issued here ck found sm issue)))
+    (c.in_ok-put_packets.ensures
+    ∙ ap (λ (packets : List Packet). c.args.text.now.items ++ text_of_outs (sent_on c.args.number packets)) c.deref-3.ensures.value
+    ∙ ap (λ (s : Step). c.args.text.now.items ++ text_of_outs s.outs) (sym (pumped_step p c.args.number at place c.index-2.result.now c.index.result.now c.in-Some.issued here ck found sm issue)))
