@@ -1,4 +1,6 @@
 pub mod Cause
+pub mod Clock
+pub mod DiskModel
 pub mod Memory
 pub mod Sink
 pub mod Source

@@ -2,7 +2,10 @@
 #![tactic(auto)]
 
 mod adapters;
+mod clock;
+mod disk;
 mod failed;
+mod gate;
 mod memory;
 mod sink;
 mod source;
@@ -10,7 +13,10 @@ mod source;
 mod tests;
 
 pub use adapters::{Input, Output};
+pub use clock::{Clock, StepClock};
+pub use disk::{Disk, Disks};
 pub use failed::Failed;
+pub use gate::{Gate, Place};
 pub use memory::{VecSink, VecSource};
 pub use sink::Sink;
 pub use source::Source;

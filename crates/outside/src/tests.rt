@@ -1,9 +1,10 @@
 // Sources and sinks at their types, and through their bounds.
-ghost use Rattle.std.specs.Prelude.{◌≡◌, ◌++◌, IfSome, OnOk, OnErr};
+ghost use Rattle.std.specs.Prelude.{◌≡◌, ◌<◌, ◌++◌, IsTrue, IfSome, OnOk, OnErr};
 ghost use Rattle.outside.specs.Cause.{HasCause};
+ghost use Rattle.outside.specs.DiskModel.{LeavesOnly, Only, Torn};
 ghost use Rattle.outside.specs.Sink.{Puts, PutsFront};
 
-use crate::{Failed, Input, Output, Sink, Source, VecSink, VecSource};
+use crate::{Clock, Disk, Failed, Input, Output, Sink, Source, StepClock, VecSink, VecSource};
 use std::alloc::Global;
 use std::test::Fail;
 
@@ -89,5 +90,29 @@ fn a_writer_is_a_sink(rt: HostRuntime) -> Result<(), Fail> {
     let mut sink = Output::new(Vec::new(alloc));
     put_both(&mut sink, b"wri", b"tten")?;
     assert_eq!(rt; sink.into_inner().as_slice(), b"written".as_slice());
+    Ok(())
+}
+
+// Writes one byte and syncs it: at any moment a crash leaves the bytes as they were but for that one.
+fn write_synced<D: Disk>(disk: &mut D, at: u64, byte: u8) -> Result<(), Failed>
+    requires within { at < D.size_of disk.old }
+    requires durable { IsTrue (D.tells disk.old) → Only (D.seen disk.old) (D.may_leave disk.old) }
+    ensures durable { OnOk result (IsTrue (D.tells disk.old) → Only (D.seen disk.new) (D.may_leave disk.new)) }
+    ensures any_moment { IsTrue (D.tells disk.old) → LeavesOnly (D.moment disk.old) (D.moment disk.new) (D.left_since disk.old) (D.left_since disk.new) (Torn at 1 (D.seen disk.old)) }
+    ensures cause { HasCause (D.faults disk.old) (D.faults disk.new) result }
+{
+    disk.write_at(at, &[byte])?;
+    disk.sync()?;
+    Ok(())
+}
+
+#[test]
+fn a_step_clock_tells_what_it_is_moved_to(rt: HostRuntime) -> Result<(), Fail> {
+    let mut clock = StepClock::at(5);
+    assert_eq!(rt; clock.now_ms(), 5);
+    clock.advance(7);
+    assert_eq!(rt; clock.now_ms(), 12);
+    clock.advance(u64::MAX);
+    assert_eq!(rt; clock.now_ms(), u64::MAX);
     Ok(())
 }
