@@ -1,0 +1,3 @@
+pub mod PlainDisk
+pub mod Images
+pub mod Laws
