@@ -320,6 +320,8 @@ impl Disk for MemoryDisk {
         ensures fails { Contains self.old.failing (next_count self.old.calls) → IsErr result }
         ensures fails_only { OnErr result (Contains self.old.failing (next_count self.old.calls) ⊎ IsTrue self.new.starved) }
         ensures starved { OnOk result (self.new.starved ≡ self.old.starved) }
+        ensures pending { OnOk result (self.new ≡ moved (with_pending (record { at = at; bytes = bytes.now; taken = length bytes.now }) self.old.state) (called self.old)) }
+        ensures half { OnErr result ((self.new ≡ failed false (moved (with_pending (record { at = at; bytes = bytes.now; taken = length bytes.now / 2 }) self.old.state) (called self.old))) ⊎ (self.new ≡ failed true (called self.old))) }
     {
         let fails = self.call();
         let taken = taken_of(fails, bytes.len());
@@ -347,6 +349,8 @@ impl Disk for MemoryDisk {
         ensures fails { Contains self.old.failing (next_count self.old.calls) → IsErr result }
         ensures fails_only { OnErr result (Contains self.old.failing (next_count self.old.calls) ⊎ IsTrue self.new.starved) }
         ensures starved { OnOk result (self.new.starved ≡ self.old.starved) }
+        ensures settled { OnOk result (self.new ≡ moved (settled self.old.state) (called self.old)) }
+        ensures kept { OnErr result ((self.new ≡ failed false (called self.old)) ⊎ (self.new ≡ failed true (called self.old))) }
     {
         if self.call() {
             self.fail(false);
