@@ -1,7 +1,7 @@
 -- From one device call of a commit to the next.
-use Rattle.std.proofs.Common.{ℕ, ◌+◌, ◌^◌, ◌<◌, ◌≤◌, ◌≡◌, ◌⊎◌, inl, inr, Result, Ok, Err, OnOk, OnErr, List, [], ◌∷◌, ◌++◌, length, take, drop, arith, refl, sym, ap, subst, ◌∙◌, append_assoc}
+use Rattle.std.proofs.Common.{ℕ, ◌+◌, ◌^◌, ◌<◌, ◌≡◌, inl, inr, Result, Ok, Err, OnOk, OnErr, List, [], ◌∷◌, ◌++◌, length, take, drop, refl, sym, ap, subst, ◌∙◌, append_assoc}
 use lib.Seq.{take-append_seam}
-use Rattle.outside.specs.DiskModel.{Torn, Holds, Follows, Only, LeavesOnly}
+use Rattle.outside.specs.DiskModel.{Torn, Holds, Follows, Only}
 use Rattle.gated_log.specs.Records.{records, body_bytes}
 use Rattle.gated_log.specs.Stands.{Stands, StandsWith, IsBeforeOrAfter, IsInCommit}
 use Rattle.gated_log.proofs.CrashLemmas.{body_torn, gate_torn, before_or_after, stands_records, drop_front, open_stands}
@@ -47,22 +47,6 @@ pub in_commit : (payloads : List (List ℕ)) (payload : List ℕ) (place : ℕ) 
     → IsInCommit payloads payload place bytes → IsBeforeOrAfter payloads payload bytes
 in_commit payloads payload place bytes some short (inl s) = inl (stands_records payloads place bytes s)
 in_commit payloads payload place bytes some short (inr (gate, s)) = before_or_after payloads payload place gate bytes some short s
-
--- a call after a call: at any moment of both
-pub leaves_only_both : (start mid now : ℕ) (past since later : ℕ → List ℕ → Type 0) (P : List ℕ → Type 0)
-    → LeavesOnly start mid past since P → LeavesOnly mid now since later P → LeavesOnly start now past later P
-leaves_only_both start mid now past since later P first second = record {
-  later = omega (arith, first.later, second.later);
-  each = λ image left. either_way image (second.before start image first.later left);
-  before = λ t image h left. or_earlier t image h (second.before t image (omega (arith, h, first.later)) left);
-} where
-  either_way : (image : List ℕ) → since start image ⊎ P image → P image
-  either_way image (inl left) = first.each image left
-  either_way image (inr p) = p
-
-  or_earlier : (t : ℕ) (image : List ℕ) → t ≤ start → since t image ⊎ P image → past t image ⊎ P image
-  or_earlier t image h (inl left) = first.before t image h left
-  or_earlier t image h (inr p) = inr p
 
 -- what holds anyway holds of an error
 pub on_err : {T E P : Type 0} (result : Result T E) → P → OnErr result P

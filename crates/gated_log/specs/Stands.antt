@@ -1,5 +1,6 @@
 -- Where a log ends on its disk: whole records, then a closed gate.
-use Rattle.std.specs.Prelude.{ℕ, ◌≡◌, ◌⊎◌, List, [], ◌∷◌, ◌++◌, length}
+use Rattle.std.specs.Prelude.{ℕ, ◌≡◌, ◌⊎◌, List, [], ◌∷◌, ◌++◌, length, refl}
+use Rattle.std.proofs.Common.{arith}
 use Rattle.outside.specs.DiskModel.{Only}
 use Rattle.gated_log.specs.Opens.{AreOpen}
 use Rattle.gated_log.specs.Records.{records, body_bytes}
@@ -28,9 +29,9 @@ IsBeforeOrAfter payloads payload image = (records image ≡ payloads) ⊎ (recor
 abbrev pub IsStanding : ℕ → List ℕ → (List ℕ → Type 0) → Type 0
 IsStanding place bytes images = Stands (records bytes) place bytes × Only bytes images
 
--- a commit was done: the body stands behind an open gate, in every image
-abbrev pub IsWritten : List (List ℕ) → List ℕ → ℕ → List ℕ → (List ℕ → Type 0) → Type 0
-IsWritten payloads payload place bytes images = StandsWith payloads payload place 1 bytes × Only bytes images
+-- the body stands behind this gate, in every image: behind 0 before a commit's second half, behind 1 after it
+abbrev pub IsWritten : List (List ℕ) → List ℕ → ℕ → ℕ → List ℕ → (List ℕ → Type 0) → Type 0
+IsWritten payloads payload place gate bytes images = StandsWith payloads payload place gate bytes × Only bytes images
 
 -- Bytes inside a commit: the gate is closed with anything behind it, or the body stands behind any gate.
 abbrev pub IsInCommit : List (List ℕ) → List ℕ → ℕ → List ℕ → Type 0
@@ -41,6 +42,15 @@ pub record IsInDoubt (payloads : List (List ℕ)) (payload : List ℕ) (place : 
   pub reads : IsInCommit payloads payload place bytes
   pub each : (image : List ℕ) → images image → IsInCommit payloads payload place image
 
--- the body is written: it stands behind a closed gate, in every image
-abbrev pub IsBodyWritten : List (List ℕ) → List ℕ → ℕ → List ℕ → (List ℕ → Type 0) → Type 0
-IsBodyWritten payloads payload place bytes images = StandsWith payloads payload place 0 bytes × Only bytes images
+-- examples: an empty log stands at its closed gate, and one with a record behind it
+empty_stands : Stands [] 0 (0 ∷ [])
+empty_stands = record { front = []; junk = []; are_open = refl; ends = refl; spelled = refl }
+
+one_stands : Stands ((88 ∷ []) ∷ []) 6 (1 ∷ 0 ∷ 0 ∷ 0 ∷ 1 ∷ 88 ∷ 0 ∷ [])
+one_stands = record {
+  front = 1 ∷ 0 ∷ 0 ∷ 0 ∷ 1 ∷ 88 ∷ [];
+  junk = [];
+  are_open = ([], record { gate = 1; head = 0 ∷ 0 ∷ 0 ∷ 1 ∷ []; is_open = refl; four = refl; tells = refl; some = omega arith; spelled = refl }, refl);
+  ends = refl;
+  spelled = refl;
+}

@@ -3,7 +3,7 @@ ghost use Rattle.std.specs.Prelude.{◌≡◌, ◌∷◌, ◌++◌, [], ◌<◌,
 ghost use Rattle.outside.specs.Cause.{HasCause};
 ghost use Rattle.outside.specs.DiskModel.{LeavesOnly, Only};
 ghost use Rattle.gated_log.specs.Records.{records};
-ghost use Rattle.gated_log.specs.Stands.{IsBeforeOrAfter, IsBodyWritten, IsInCommit, IsInDoubt, IsStanding, IsWritten};
+ghost use Rattle.gated_log.specs.Stands.{IsBeforeOrAfter, IsInCommit, IsInDoubt, IsStanding, IsWritten};
 
 use crate::Draft;
 use outside::{Disk, Failed};
@@ -14,10 +14,12 @@ pub(crate) fn write_body<D: Disk>(disk: &mut D, place: u64, draft: &Draft) -> Re
     requires within { place < D.size_of disk.old }
     requires fits { place + (6 + length draft.now) ≤ 2 ^ 64 - 1 }
     requires stands { IsTrue (D.tells disk.old) → IsStanding place (D.seen disk.old) (D.may_leave disk.old) }
-    ensures written { OnOk result (IsTrue (D.tells disk.old) → IsBodyWritten (records (D.seen disk.old)) draft.now place (D.seen disk.new) (D.may_leave disk.new)) }
+    ensures written { OnOk result (IsTrue (D.tells disk.old) → IsWritten (records (D.seen disk.old)) draft.now place 0 (D.seen disk.new) (D.may_leave disk.new)) }
     ensures doubt { OnErr result (IsTrue (D.tells disk.old) → IsInDoubt (records (D.seen disk.old)) draft.now place (D.seen disk.new) (D.may_leave disk.new)) }
     ensures any_moment { IsTrue (D.tells disk.old) → LeavesOnly (D.moment disk.old) (D.moment disk.new) (D.left_since disk.old) (D.left_since disk.new)
         (IsInCommit (records (D.seen disk.old)) draft.now place) }
+    ensures some { 0 < length draft.now }
+    ensures short { length draft.now ≤ 1342177280 }
     ensures tells { D.tells disk.new ≡ D.tells disk.old }
     ensures size { OnOk result (place + (6 + length draft.now) ≤ D.size_of disk.new) }
     ensures no_shorter { D.size_of disk.old ≤ D.size_of disk.new }
@@ -30,15 +32,17 @@ pub(crate) fn write_body<D: Disk>(disk: &mut D, place: u64, draft: &Draft) -> Re
 }
 
 // The body, then the gate, each synced.
-#[tactic(auto, using(crate::proofs::CommitLemmas::gate_images, crate::proofs::CommitLemmas::gate_written, crate::proofs::CommitLemmas::leaves_only_both))]
+#[tactic(auto, using(crate::proofs::CommitLemmas::gate_images, crate::proofs::CommitLemmas::gate_written))]
 pub(crate) fn write_gated<D: Disk>(disk: &mut D, place: u64, draft: &Draft) -> Result<(), Failed>
     requires within { place < D.size_of disk.old }
     requires fits { place + (6 + length draft.now) ≤ 2 ^ 64 - 1 }
     requires stands { IsTrue (D.tells disk.old) → IsStanding place (D.seen disk.old) (D.may_leave disk.old) }
-    ensures written { OnOk result (IsTrue (D.tells disk.old) → IsWritten (records (D.seen disk.old)) draft.now place (D.seen disk.new) (D.may_leave disk.new)) }
+    ensures written { OnOk result (IsTrue (D.tells disk.old) → IsWritten (records (D.seen disk.old)) draft.now place 1 (D.seen disk.new) (D.may_leave disk.new)) }
     ensures doubt { OnErr result (IsTrue (D.tells disk.old) → IsInDoubt (records (D.seen disk.old)) draft.now place (D.seen disk.new) (D.may_leave disk.new)) }
     ensures any_moment { IsTrue (D.tells disk.old) → LeavesOnly (D.moment disk.old) (D.moment disk.new) (D.left_since disk.old) (D.left_since disk.new)
         (IsInCommit (records (D.seen disk.old)) draft.now place) }
+    ensures some { 0 < length draft.now }
+    ensures short { length draft.now ≤ 1342177280 }
     ensures tells { D.tells disk.new ≡ D.tells disk.old }
     ensures size { OnOk result (place + (6 + length draft.now) ≤ D.size_of disk.new) }
     ensures no_shorter { D.size_of disk.old ≤ D.size_of disk.new }
@@ -68,6 +72,5 @@ pub fn write_record<D: Disk>(disk: &mut D, place: u64, draft: &Draft) -> Result<
     ensures cause { HasCause (D.faults disk.old) (D.faults disk.new) result }
     ensures arms { D.arms disk.new ≡ D.arms disk.old }
 {
-    let _ = draft.body();
     write_gated(disk, place, draft)
 }
