@@ -1,5 +1,5 @@
 -- What was put of a text so far.
-use Rattle.std.proofs.Common.{ℕ, ◌≡◌, List, [], ◌∷◌, ◌++◌, Result, Ok, Err, OnErr, Option, Some, None, arith, refl, sym, subst, ap, ◌∙◌, append_assoc, append-nil}
+use Rattle.std.proofs.Common.{ℕ, ◌≡◌, List, [], ◌∷◌, ◌++◌, Option, Some, None, arith, refl, sym, subst, ap, ◌∙◌, append_assoc, append-nil}
 use Rattle.world_terms.specs.PlainBroker.{PlainBroker, plain_step, plain_text}
 use Rattle.world_terms.specs.Run.{line_or_nothing}
 use Rattle.world_terms.specs.Script.{line_of, line_texts}
@@ -60,8 +60,3 @@ pub more_lines : (before mid now : Option (List ℕ)) (whole rest text later : L
 more_lines before mid now whole rest text later broker after p e q same =
     subst (λ b. PutSoFar before now whole (plain_text b (line_texts later))) (sym same)
     (more_so_far before mid now whole _ _ (next_line before mid whole rest text (line_texts later) broker p e) q)
-
--- what holds anyway holds of an error
-pub on_err : {T E P : Type 0} (r : Result T E) → P → OnErr r P
-on_err (Ok x) p = tt
-on_err (Err e) p = p

@@ -76,6 +76,22 @@ leaves_only_then start mid now past since later images P so_far call has = recor
   or_earlier t image h (inl left) = so_far.before t image h left
   or_earlier t image h (inr left) = inr (has image left)
 
+-- and then more calls, at any moment of which each image has Q
+pub leaves_only_and : (start mid now : ℕ) (past since later : ℕ → List ℕ → Type 0) (P Q : List ℕ → Type 0)
+    → LeavesOnly start mid past since P → LeavesOnly mid now since later Q → ((image : List ℕ) → Q image → P image) → LeavesOnly start now past later P
+leaves_only_and start mid now past since later P Q p q has = record {
+  later = omega (arith, p.later, q.later);
+  each = λ image left. either_way image (q.before start image p.later left);
+  before = λ t image h left. or_earlier t image h (q.before t image (omega (arith, h, p.later)) left);
+} where
+  either_way : (image : List ℕ) → since start image ⊎ Q image → P image
+  either_way image (inl left) = p.each image left
+  either_way image (inr q) = has image q
+
+  or_earlier : (t : ℕ) (image : List ℕ) → t ≤ start → since t image ⊎ Q image → past t image ⊎ P image
+  or_earlier t image h (inl left) = p.before t image h left
+  or_earlier t image h (inr q) = inr (has image q)
+
 -- what follows from P holds at any moment too
 pub leaves_only_weaker : (start now : ℕ) (past since : ℕ → List ℕ → Type 0) (P Q : List ℕ → Type 0)
     → LeavesOnly start now past since P → ((image : List ℕ) → P image → Q image) → LeavesOnly start now past since Q

@@ -2,7 +2,8 @@
 use Rattle.std.proofs.Common.{ℕ, List, [], ◌∷◌, Option, Bor, ap, ◌∙◌, arith}
 use Rattle.std.specs.Option.{option_copied}
 use Rattle.topic_name.specs.Pieces.{pieces_after}
-use Rattle.broker_main.proofs.RunningLemmas.{next_line, more_lines, all_put, front_put, on_err}
+use Rattle.outside.specs.Results.{on_err}
+use Rattle.broker_main.proofs.RunningLemmas.{next_line, more_lines, all_put, front_put}
 use Rattle.broker_main.proofs.running.run_lines.Goals as goal
 
 pub returns-in_err-run_line-clause-err : goal.returns-in_err-run_line-clause-err
