@@ -3,7 +3,9 @@
 
 mod bytes;
 mod disk;
+mod gate_disk;
 #[cfg(test)]
 mod tests;
 
 pub use disk::MemoryDisk;
+pub use gate_disk::GateDisk;

@@ -1,6 +1,7 @@
 use super::*;
-use outside::Disk;
+use outside::{Disk, Failed, Gate, Place};
 use std::alloc::{AllocError, Global};
+use std::cell::Cell;
 use std::test::Fail;
 
 #[test]
@@ -54,6 +55,49 @@ fn the_second_call_fails_once(rt: HostRuntime) -> Result<(), Fail> {
     assert!(rt; disk.sync().is_ok());
     assert!(rt; !disk.starved());
     Ok(())
+}
+
+// A gate that holds nobody, and counts the syncs that pass it.
+#[derive(Drop)]
+struct CountingGate<'a> {
+    syncs: &'a Cell<u32>,
+}
+
+impl Gate for CountingGate<'_> {
+    fn pass(&mut self, place: Place) {
+        if place == Place::Sync {
+            self.syncs.set(self.syncs.get().saturating_add(1));
+        }
+    }
+}
+
+#[test]
+fn a_disk_behind_a_gate_keeps_what_was_synced_and_fails_at_the_call_it_is_told(
+    rt: HostRuntime,
+) -> Result<(), Fail> {
+    let alloc = rt.alloc();
+    let syncs = Cell::new(0);
+    let mut disk = GateDisk::new(MemoryDisk::new(alloc), CountingGate { syncs: &syncs });
+    write_synced(&mut disk, &[0x58, 0x59])?;
+    assert_eq!(rt;
+        all_of(alloc, &mut disk)?.as_slice(),
+        [0x58, 0x59].as_slice()
+    );
+    disk.arm(2)?;
+    assert!(rt; disk.write_at(0, &[0x5a]).is_ok());
+    assert!(rt; disk.sync().is_err());
+    assert_eq!(rt; syncs.get(), 2);
+    assert_eq!(rt;
+        all_of(alloc, &mut disk.into_disk().crash(0)?)?.as_slice(),
+        [0x58, 0x59].as_slice()
+    );
+    Ok(())
+}
+
+// Writes a piece at the start, and syncs it.
+fn write_synced<D: Disk>(disk: &mut D, piece: &[u8]) -> Result<(), Failed> {
+    disk.write_at(0, piece)?;
+    disk.sync()
 }
 
 // All the bytes that a disk gives.
