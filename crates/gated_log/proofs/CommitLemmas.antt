@@ -1,5 +1,5 @@
 -- From one device call of a commit to the next.
-use Rattle.std.proofs.Common.{ℕ, ◌+◌, ◌^◌, ◌<◌, ◌≡◌, inl, inr, Result, Ok, Err, OnOk, OnErr, List, [], ◌∷◌, ◌++◌, length, take, drop, refl, sym, ap, subst, ◌∙◌, append_assoc}
+use Rattle.std.proofs.Common.{ℕ, ◌+◌, ◌^◌, ◌<◌, ◌≡◌, inl, inr, List, [], ◌∷◌, ◌++◌, length, take, drop, refl, sym, ap, subst, ◌∙◌, append_assoc}
 use lib.Seq.{take-append_seam}
 use Rattle.outside.specs.DiskModel.{Torn, Holds, Follows, Only}
 use Rattle.gated_log.specs.Records.{records, body_bytes}
@@ -48,11 +48,6 @@ pub in_commit : (payloads : List (List ℕ)) (payload : List ℕ) (place : ℕ) 
 in_commit payloads payload place bytes some short (inl s) = inl (stands_records payloads place bytes s)
 in_commit payloads payload place bytes some short (inr (gate, s)) = before_or_after payloads payload place gate bytes some short s
 
--- what holds anyway holds of an error
-pub on_err : {T E P : Type 0} (result : Result T E) → P → OnErr result P
-on_err (Ok x) p = tt
-on_err (Err e) p = p
-
 -- after a commit the log has the one more record
 pub written_list : (payloads : List (List ℕ)) (payload : List ℕ) (place : ℕ) (bytes : List ℕ) → 0 < length payload → length payload < 2 ^ 32
     → StandsWith payloads payload place 1 bytes → records bytes ≡ payloads ++ payload ∷ []
@@ -65,8 +60,3 @@ pub written_stands : (payloads : List (List ℕ)) (payload : List ℕ) (place : 
 written_stands payloads payload place bytes some short s =
     subst (λ list. Stands list (place + (5 + length payload)) bytes) (sym (written_list payloads payload place bytes some short s))
     (open_stands payloads payload place 1 bytes refl some short s)
-
--- what follows of an answer
-pub on_ok_then : {T E P Q : Type 0} (result : Result T E) → (P → Q) → OnOk result P → OnOk result Q
-on_ok_then (Ok x) f p = f p
-on_ok_then (Err e) f p = tt

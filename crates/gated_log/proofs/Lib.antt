@@ -1,3 +1,11 @@
 pub mod RecordLemmas
 pub mod CrashLemmas
 pub mod CommitLemmas
+pub mod ClosingLemmas
+pub mod ReadingLemmas
+pub mod SpanLemmas
+pub mod FindLemmas
+pub mod MountLemmas
+pub mod LogLemmas
+pub mod SettleLemmas
+pub mod PartLemmas

@@ -36,6 +36,15 @@ impl Draft {
         Ok(Draft { bytes })
     }
 
+    /// How many bytes the payload has.
+    pub fn len(&self) -> u32
+        ensures length { result ≡ length self.now }
+        ensures some { 0 < result }
+        ensures short { result ≤ 1342177280 }
+    {
+        (self.bytes.len() - 5) as u32
+    }
+
     // The bytes behind a gate, and the closed gate behind them.
     pub(crate) fn body(&self) -> &[u8]
         ensures body { result.now ≡ body_bytes self.now }

@@ -55,9 +55,9 @@ pub(crate) fn write_gated<D: Disk>(disk: &mut D, place: u64, draft: &Draft) -> R
     Ok(())
 }
 
-/// The device calls of a commit: the body behind the closed gate at this place, a sync, the open gate, a sync. At every
-/// moment each image has the list of before or the list with the draft; after `Ok` each has the list with the draft.
-pub fn write_record<D: Disk>(disk: &mut D, place: u64, draft: &Draft) -> Result<(), Failed>
+// The device calls of a commit: the body behind the closed gate at this place, a sync, the open gate, a sync. At every
+// moment each image has the list of before or the list with the draft; after `Ok` each has the list with the draft.
+pub(crate) fn write_record<D: Disk>(disk: &mut D, place: u64, draft: &Draft) -> Result<(), Failed>
     requires within { place < D.size_of disk.old }
     requires fits { place + (6 + length draft.now) ≤ 2 ^ 64 - 1 }
     requires stands { IsTrue (D.tells disk.old) → IsStanding place (D.seen disk.old) (D.may_leave disk.old) }

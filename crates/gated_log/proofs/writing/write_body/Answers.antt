@@ -1,8 +1,9 @@
 use Rattle.std.proofs.Common.{◌+◌, IsTrue, length, inl, inr, subst, sym}
 use Rattle.outside.specs.DiskModel.{Holds}
+use Rattle.outside.specs.Results.{on_err}
 use Rattle.gated_log.specs.Records.{records}
 use Rattle.gated_log.specs.Stands.{StandsWith}
-use Rattle.gated_log.proofs.CommitLemmas.{body_images, on_err}
+use Rattle.gated_log.proofs.CommitLemmas.{body_images}
 use Rattle.gated_log.proofs.CrashLemmas.{body_written, body_torn}
 use Rattle.gated_log.proofs.writing.write_body.Goals as goal
 

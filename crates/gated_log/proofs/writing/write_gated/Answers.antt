@@ -1,8 +1,9 @@
 use Rattle.std.proofs.Common.{IsTrue, inr, subst, sym}
 use Rattle.outside.specs.DiskModel.{leaves_only_then}
+use Rattle.outside.specs.Results.{on_err}
 use Rattle.gated_log.specs.Records.{records}
 use Rattle.gated_log.specs.Stands.{StandsWith}
-use Rattle.gated_log.proofs.CommitLemmas.{gate_images, gate_written, on_err}
+use Rattle.gated_log.proofs.CommitLemmas.{gate_images, gate_written}
 use Rattle.gated_log.proofs.CrashLemmas.{gate_torn}
 use Rattle.gated_log.proofs.writing.write_gated.Goals as goal
 

@@ -1,6 +1,7 @@
 use Rattle.std.proofs.Common.{arith}
 use Rattle.outside.specs.DiskModel.{leaves_only_weaker}
-use Rattle.gated_log.proofs.CommitLemmas.{in_commit, on_ok_then, written_list, written_stands}
+use Rattle.outside.specs.Results.{on_ok_then}
+use Rattle.gated_log.proofs.CommitLemmas.{in_commit, written_list, written_stands}
 use Rattle.gated_log.proofs.writing.write_record.Goals as goal
 
 pub returns-clause-list : goal.returns-clause-list

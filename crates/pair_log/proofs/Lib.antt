@@ -1,0 +1,4 @@
+pub mod PairLemmas
+pub mod SettleLemmas
+pub mod TurnLemmas
+pub mod RewriteLemmas
