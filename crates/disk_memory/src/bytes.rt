@@ -1,14 +1,16 @@
 // Writes to bytes in memory, whole, by halves and with one byte everywhere.
-ghost use Rattle.std.specs.Prelude.{◌≡◌, ◌+◌, ◌/◌, ◌≤◌, length, take, replicate, vec_len, OnOk, OnErr};
+ghost use Rattle.std.specs.Prelude.{◌≡◌, ◌+◌, ◌/◌, ◌≤◌, length, max, take, replicate, vec_len, vec_capacity, IsOk, OnOk, OnErr};
 ghost use Rattle.disk_memory.specs.PlainDisk.{written_at, grown};
 
 use std::alloc::{AllocError, Global};
 
-/// Writes a piece at a place. Where memory is refused, the bytes stay.
+/// Writes a piece at a place. Where memory is refused, the bytes stay; where there is room, it isn't.
 pub(crate) fn write_bytes(bytes: &mut Vec<u8>, at: usize, piece: &[u8]) -> Result<(), AllocError>
     requires { at ≤ vec_len bytes.old }
     ensures ok { OnOk result (bytes.new.items ≡ written_at at piece.now bytes.old.items) }
     ensures err { OnErr result (bytes.new.items ≡ bytes.old.items) }
+    ensures capacity { vec_capacity bytes.old ≤ vec_capacity bytes.new }
+    ensures succeeds { max (vec_len bytes.old) (at + length piece.now) ≤ vec_capacity bytes.old → IsOk result }
 {
     let over = piece.len().min(bytes.len() - at);
     bytes.extend_from_slice(&piece[over..])?;

@@ -1,10 +1,10 @@
 // A disk in memory.
-ghost use Rattle.std.specs.Prelude.{◌≡◌, ◌↔◌, ◌⊎◌, ◌+◌, ◌/◌, ◌<◌, ◌≤◌, [], ◌∷◌, ◌++◌, map, length, take, drop, max, vec_len, true, false, refl, IfOk, OnOk, OnErr, IsErr, IsTrue, Contains, if◌then◌else◌};
+ghost use Rattle.std.specs.Prelude.{◌≡◌, ◌↔◌, ◌⊎◌, ◌+◌, ◌/◌, ◌<◌, ◌≤◌, [], ◌∷◌, ◌++◌, map, length, take, drop, max, vec_len, vec_capacity, true, false, refl, IfOk, OnOk, OnErr, IsErr, IsTrue, Contains, if◌then◌else◌};
 ghost use Rattle.std.proofs.Common.{inl};
 ghost use Rattle.outside.specs.Cause.{HasCause, Rose, next_count};
 ghost use Rattle.outside.specs.DiskModel.{AddsNone, Elapses, Follows, Holds, Only, SameImages, Torn};
 ghost use Rattle.disk_memory.specs.Images.{IsImage, LeftSince, crashed, image_after, with_write};
-ghost use Rattle.disk_memory.specs.PlainDisk.{PlainDisk, PlainWrite, armed, called, empty_state, failed, moved, seen_bytes, seen_of, settled, state_of, with_pending, written_at};
+ghost use Rattle.disk_memory.specs.PlainDisk.{PlainDisk, PlainWrite, armed, called, empty_state, failed, moved, seen_after, seen_bytes, seen_of, settled, state_of, with_pending, written_at};
 ghost use Rattle.disk_memory.specs.Laws.{only_now_left, seen_is_image};
 
 use crate::bytes::{write_bytes, write_filled, write_half};
@@ -165,14 +165,15 @@ impl MemoryDisk {
         Ok(())
     }
 
-    // Makes what reads give the base.
+    // Makes what reads give the base, at the cost of the writes alone.
     fn settle(&mut self) -> Result<(), AllocError>
         ensures ok { OnOk result (self.new ≡ moved (settled self.old.state) self.old) }
         ensures err { OnErr result (self.new ≡ self.old) }
     {
         let past = self.past.and(&self.base, &self.writes);
-        let base = self.bytes.to_vec(self.alloc)?;
-        self.base = base;
+        let more = self.bytes.len().saturating_sub(self.base.len());
+        self.base.reserve(more)?;
+        lay_writes(&mut self.base, self.writes.as_slice());
         self.writes.clear();
         self.past = past;
         Ok(())
@@ -214,6 +215,29 @@ fn add_write(
         return Err(AllocError);
     }
     Ok(())
+}
+
+// Writes what reads give of one write. There is room.
+fn lay_write(bytes: &mut Vec<u8>, write: &Write)
+    requires room { length (seen_after bytes.old.items write.now) ≤ vec_capacity bytes.old }
+    ensures bytes { bytes.new.items ≡ seen_after bytes.old.items write.now }
+    ensures capacity { vec_capacity bytes.old ≤ vec_capacity bytes.new }
+{
+    if write.at > bytes.len() {
+        return;
+    }
+    let taken = write.taken.min(write.bytes.len());
+    let _ = write_bytes(bytes, write.at, &write.bytes[..taken]);
+}
+
+// Writes what reads give of all of them. There is room.
+fn lay_writes(bytes: &mut Vec<u8>, writes: &[Write])
+    requires room { length (seen_of bytes.old.items writes.now) ≤ vec_capacity bytes.old }
+    ensures { bytes.new.items ≡ seen_of bytes.old.items writes.now }
+{
+    for write in writes {
+        lay_write(bytes, write);
+    }
 }
 
 // What a crash leaves of one write.
