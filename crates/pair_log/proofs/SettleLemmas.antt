@@ -9,7 +9,7 @@ use Rattle.gated_log.specs.Records.{records}
 use Rattle.pair_log.specs.declared.doubt.Doubt.TheVariants.{Nothing, Commit}
 use Rattle.pair_log.specs.Epochs.{epoch_of}
 use Rattle.pair_log.specs.PlainPair.{AllOlder, AllRead, IsEither, IsPair, OtherHas, PlainPair, StandsSo, Told, after_doubt, counts, first_of, head_of, second_of}
-use Rattle.pair_log.proofs.PairLemmas.{counts_more, doubt_reads, pair_leaves}
+use Rattle.pair_log.proofs.PairLemmas.{counts_more, doubt_reads, pair_leaves, pair_reads}
 
 -- what was in doubt is behind the others
 doubted_later : (standing : Standing) (payloads : List (List ℕ)) → (later : List (List ℕ)) × (with_doubted standing payloads ≡ payloads ++ later)
@@ -62,13 +62,24 @@ settled_pair tells images pair new log doubt some rests same list has =
     }
 
 -- at any moment of a call that changes the counting disk alone, and leaves each image with its list
-pub settle_moment : {D : Type 0} (tells : D → Bool) (images : D → List ℕ → Type 0) (moment : D → ℕ) (since : D → ℕ → List ℕ → Type 0) (pair : PlainPair D) (new : D)
+pub counting_moment : {D : Type 0} (tells : D → Bool) (images : D → List ℕ → Type 0) (moment : D → ℕ) (since : D → ℕ → List ℕ → Type 0) (pair : PlainPair D) (new : D)
     → IsPair tells images pair → Told tells pair → ((a : List ℕ) → since new (moment pair.counting.disk) a → HasList pair.counting.standing pair.counting.payloads a)
     → ((b : List ℕ) → since pair.other.disk (moment pair.other.disk) b → images pair.other.disk b)
     → AllRead (since (first_of pair.swapped new pair.other.disk) (moment (first_of pair.swapped pair.counting.disk pair.other.disk)))
     (since (second_of pair.swapped new pair.other.disk) (moment (second_of pair.swapped pair.counting.disk pair.other.disk)))
     (IsEither pair.counting.payloads (after_doubt pair))
-settle_moment tells images moment since pair new log told each now =
+counting_moment tells images moment since pair new log told each now =
     pair_leaves moment since pair.swapped pair.counting.disk pair.other.disk new pair.other.disk (IsEither pair.counting.payloads (after_doubt pair))
     (λ a b left_a left_b. doubt_reads pair.doubt pair.swapped pair.counting.payloads pair.counting.standing pair.other.standing (images pair.other.disk) a b log.stands log.some
     (each a left_a) (log.told told).other_has (now b left_b))
+
+-- and after such a call that keeps its list
+pub counting_now : {D : Type 0} (tells : D → Bool) (images : D → List ℕ → Type 0) (pair : PlainPair D) (new : PlainLog D) → IsPair tells images pair → Told tells pair
+    → new.standing ≡ pair.counting.standing → new.payloads ≡ pair.counting.payloads → AllHave new.standing new.payloads (images new.disk)
+    → AllRead (images (first_of pair.swapped new.disk pair.other.disk)) (images (second_of pair.swapped new.disk pair.other.disk)) (IsEither pair.counting.payloads (after_doubt pair))
+counting_now tells images pair new log told standing list has =
+    let has_then : AllHave pair.counting.standing pair.counting.payloads (images new.disk) =
+    subst (λ s. AllHave s pair.counting.payloads (images new.disk)) standing (subst (λ l. AllHave new.standing l (images new.disk)) list has) in
+    pair_reads images pair.swapped new.disk pair.other.disk (IsEither pair.counting.payloads (after_doubt pair))
+    (λ a b left_a left_b. doubt_reads pair.doubt pair.swapped pair.counting.payloads pair.counting.standing pair.other.standing (images pair.other.disk) a b log.stands log.some
+    (has_then a left_a) (log.told told).other_has left_b)

@@ -28,6 +28,13 @@ first_disk pair = first_of pair.swapped pair.counting.disk pair.other.disk
 abbrev pub second_disk : {D : Type 0} → PlainPair D → D
 second_disk pair = second_of pair.swapped pair.counting.disk pair.other.disk
 
+-- the limits of the disks, in their order
+abbrev pub first_limit : {D : Type 0} → PlainPair D → ℕ
+first_limit pair = first_of pair.swapped pair.counting.limit pair.other.limit
+
+abbrev pub second_limit : {D : Type 0} → PlainPair D → ℕ
+second_limit pair = second_of pair.swapped pair.counting.limit pair.other.limit
+
 -- record 0 and those after it
 abbrev pub head_of : List (List ℕ) → List ℕ
 head_of [] = []
@@ -62,6 +69,14 @@ after_of Restart payloads counting other = payloads
 
 abbrev pub after_doubt : {D : Type 0} → PlainPair D → List (List ℕ)
 after_doubt pair = after_of pair.doubt pair.counting.payloads pair.counting.standing pair.other.standing
+
+-- the log whose gate is in doubt
+abbrev pub doubted_of : {D : Type 0} → Doubt → PlainLog D → PlainLog D → PlainLog D
+doubted_of Rewrite counting other = other
+doubted_of doubt counting other = counting
+
+abbrev pub doubted_log : {D : Type 0} → PlainPair D → PlainLog D
+doubted_log pair = doubted_of pair.doubt pair.counting pair.other
 
 abbrev pub IsEither : List (List ℕ) → List (List ℕ) → List (List ℕ) → Type 0
 IsEither before after list = (list ≡ before) ⊎ (list ≡ after)

@@ -4,7 +4,7 @@ ghost use Rattle.outside.specs.Cause.{Rose};
 ghost use Rattle.outside.specs.DiskModel.{LeavesOnly};
 ghost use Rattle.gated_log.specs.declared.refused.LogRefused.TheVariants.{Fault, Full};
 ghost use Rattle.gated_log.specs.Blame.{IsBlamed};
-ghost use Rattle.gated_log.specs.PlainLog.{AllHave, AtRest, HasList};
+ghost use Rattle.gated_log.specs.PlainLog.{AllHave, AtRest, HasList, end_of};
 ghost use Rattle.gated_log.specs.Stands.{IsBeforeOrAfter};
 ghost use Rattle.pair_log.specs.Epochs.{epoch_of, is_later, next_epoch};
 ghost use Rattle.pair_log.specs.Mounted.{IsBegun, begun, epoch_in, first_record, second_later};
@@ -42,6 +42,7 @@ pub(crate) fn begin<D: Disk>(
     ensures any_moment { IsTrue (D.tells log.old.disk) → LeavesOnly (D.moment log.old.disk) (D.moment log.new.disk) (D.left_since log.old.disk) (D.left_since log.new.disk)
         (IsBeforeOrAfter [] (first_record snapshot.now)) }
     ensures full { IsErrOf result Full → log.old.limit < 14 + length snapshot.now }
+    ensures end { OnOk result (log.new.end ≡ 13 + length snapshot.now) }
     ensures limit { log.new.limit ≡ log.old.limit }
     ensures cause { IsBlamed (D.faults log.old.disk) (D.faults log.new.disk) result }
     ensures tells { D.tells log.new.disk ≡ D.tells log.old.disk }
@@ -65,6 +66,7 @@ pub(crate) fn epoch_at<D: Disk>(alloc: Global, log: &mut Log<D>) -> Result<Optio
     ensures list { IsTrue (D.tells log.old.disk) → log.new.payloads ≡ log.old.payloads }
     ensures count { length log.new.payloads ≡ length log.old.payloads }
     ensures standing { log.new.standing ≡ AtRest }
+    ensures end { log.new.end ≡ log.old.end }
     ensures limit { log.new.limit ≡ log.old.limit }
     ensures never_full { IsErrOf result Full → ⊥ }
     ensures cause { IsBlamed (D.faults log.old.disk) (D.faults log.new.disk) result }
@@ -122,6 +124,8 @@ fn begin_new<D: Disk>(
     requires at_start { length first.old.payloads ≡ 0 → first.old.end ≡ 0 }
     ensures full { IsErrOf result Full → first.old.limit < 14 + length snapshot.now }
     ensures list { OnOk result (IsTrue (D.tells first.old.disk) → first.new.payloads ≡ begun snapshot.now first.old.payloads second.now.payloads) }
+    ensures end { OnOk result ((IsTrue (D.tells first.old.disk) → first.old.end ≡ end_of first.old.payloads) → IsTrue (D.tells first.old.disk) → first.new.end ≡ end_of first.new.payloads) }
+    ensures limit { first.new.limit ≡ first.old.limit }
     ensures count { OnOk result (0 < length first.new.payloads + length second.now.payloads) }
     ensures rests { OnOk result (first.new.standing ≡ AtRest) }
     ensures images { OnOk result (IsTrue (D.tells first.old.disk) → AllHave AtRest first.new.payloads (D.may_leave first.new.disk)) }
@@ -157,6 +161,10 @@ pub(crate) fn epochs<D: Disk>(
     ensures second_some { IfOk result (λ epochs. 0 < length second.new.payloads → epochs.1 ≡ None → ⊥) }
     ensures first_none { IfOk result (λ epochs. length first.new.payloads ≡ 0 → epochs.0 ≡ None) }
     ensures second_none { IfOk result (λ epochs. length second.new.payloads ≡ 0 → epochs.1 ≡ None) }
+    ensures first_end { OnOk result ((IsTrue (D.tells first.old.disk) → first.old.end ≡ end_of first.old.payloads) → IsTrue (D.tells first.old.disk) → first.new.end ≡ end_of first.new.payloads) }
+    ensures second_end { OnOk result ((IsTrue (D.tells second.old.disk) → second.old.end ≡ end_of second.old.payloads) → IsTrue (D.tells second.old.disk) → second.new.end ≡ end_of second.new.payloads) }
+    ensures first_limit { first.new.limit ≡ first.old.limit }
+    ensures second_limit { second.new.limit ≡ second.old.limit }
     ensures count { OnOk result (0 < length first.new.payloads + length second.new.payloads) }
     ensures first_list { OnOk result (IsTrue (D.tells first.old.disk) → IsTrue (D.tells second.old.disk) → first.new.payloads ≡ begun snapshot.now first.old.payloads second.old.payloads) }
     ensures second_list { OnOk result (IsTrue (D.tells second.old.disk) → second.new.payloads ≡ second.old.payloads) }

@@ -4,15 +4,15 @@ ghost use Rattle.gated_log.specs.declared.refused.LogRefused.TheVariants.{Fault,
 ghost use Rattle.gated_log.specs.declared.settled.Settled.TheVariants.{In, Out};
 ghost use Rattle.std.specs.Int.{w64, to_be_bytes};
 ghost use Rattle.outside.specs.Cause.{Rose};
-ghost use Rattle.outside.specs.DiskModel.{LeavesOnly};
-ghost use Rattle.gated_log.specs.PlainLog.{AllHave, AtRest};
+ghost use Rattle.outside.specs.DiskModel.{AddsNone, LeavesOnly};
+ghost use Rattle.gated_log.specs.PlainLog.{AllHave, AtRest, InDoubt, doubted_length, end_of};
 ghost use Rattle.gated_log.specs.Blame.{IsBlamed};
 ghost use Rattle.gated_log.specs.Stands.{IsBeforeOrAfter};
 ghost use Rattle.pair_log.specs.declared.doubt.Doubt.TheVariants.{Commit, Nothing, Restart, Rewrite};
 ghost use Rattle.pair_log.specs.Epochs.{counting, next_epoch, read_pair, snapshot_of};
 ghost use Rattle.gated_log.specs.Records.{records};
 ghost use Rattle.pair_log.specs.Mounted.{IsBeginning, IsMounting, epoch_in, or_first};
-ghost use Rattle.pair_log.specs.PlainPair.{AllOlder, IsEither, IsNewOrOlder, head_of, PairLeaves, PairReads, Told, after_doubt, first_disk, first_of, second_disk, second_of, tail_of};
+ghost use Rattle.pair_log.specs.PlainPair.{AllOlder, IsEither, IsNewOrOlder, head_of, PairLeaves, PairReads, Told, after_doubt, doubted_log, first_disk, first_limit, first_of, second_disk, second_limit, second_of, tail_of};
 
 use crate::Doubt;
 use crate::mounting::{epochs, second_is_later};
@@ -76,6 +76,9 @@ impl<D: Disk> PairLog<D> {
         ensures first { first_disk result ≡ first.disk }
         ensures second { second_disk result ≡ second.disk }
         ensures list { IsTrue (D.tells first.disk) → IsTrue (D.tells second.disk) → result.counting.payloads ≡ counting first.payloads second.payloads }
+        ensures first_limit { first_limit result ≡ first.limit }
+        ensures second_limit { second_limit result ≡ second.limit }
+        ensures end { (first.end ≡ end_of first.payloads) → (second.end ≡ end_of second.payloads) → result.counting.end ≡ end_of result.counting.payloads }
         ensures images { Told D.tells result → PairReads D.may_leave result (IsEither result.counting.payloads result.counting.payloads) }
         ensures rests { result.doubt ≡ Nothing }
     {
@@ -120,12 +123,23 @@ impl<D: Disk> PairLog<D> {
         ensures second_moment_refused { IfErr result (λ refused. IsTrue (D.tells second) → LeavesOnly (D.moment second) (D.moment refused.1) (D.left_since second) (D.left_since refused.1)
             (IsMounting (D.may_leave second) (records (D.seen second)))) }
         ensures images { IfOk result (λ pair. Told D.tells pair → PairReads D.may_leave pair (IsEither pair.counting.payloads pair.counting.payloads)) }
+        ensures end { IfOk result (λ pair. IsTrue (D.tells first) → IsTrue (D.tells second) → pair.counting.end ≡ end_of pair.counting.payloads) }
+        ensures first_limit { IfOk result (λ pair. first_limit pair ≡ limit) }
+        ensures second_limit { IfOk result (λ pair. second_limit pair ≡ limit) }
         ensures full { IfErr result (λ refused. refused.3 ≡ Full → limit < 14 + length snapshot.now) }
         ensures fault { IfErr result (λ refused. refused.3 ≡ Fault → ((refused.2 ≡ 0) × Rose (D.faults first) (D.faults refused.0)) ⊎ ((refused.2 ≡ 1) × Rose (D.faults second) (D.faults refused.1))) }
         ensures first_told { IfOk result (λ pair. D.tells (first_disk pair) ≡ D.tells first) }
         ensures second_told { IfOk result (λ pair. D.tells (second_disk pair) ≡ D.tells second) }
+        ensures first_told_refused { IfErr result (λ refused. D.tells refused.0 ≡ D.tells first) }
+        ensures second_told_refused { IfErr result (λ refused. D.tells refused.1 ≡ D.tells second) }
+        ensures first_later { IfOk result (λ pair. D.faults first ≤ D.faults (first_disk pair)) }
+        ensures second_later { IfOk result (λ pair. D.faults second ≤ D.faults (second_disk pair)) }
+        ensures first_later_refused { IfErr result (λ refused. D.faults first ≤ D.faults refused.0) }
+        ensures second_later_refused { IfErr result (λ refused. D.faults second ≤ D.faults refused.1) }
         ensures first_arms { IfOk result (λ pair. D.arms (first_disk pair) ≡ D.arms first) }
         ensures second_arms { IfOk result (λ pair. D.arms (second_disk pair) ≡ D.arms second) }
+        ensures first_arms_refused { IfErr result (λ refused. D.arms refused.0 ≡ D.arms first) }
+        ensures second_arms_refused { IfErr result (λ refused. D.arms refused.1 ≡ D.arms second) }
     {
         let mut first_log = match Log::mount(alloc, first, limit) {
             Ok(log) => log,
@@ -291,6 +305,11 @@ impl<D: Disk> PairLog<D> {
         requires { self.old.doubt ≡ Commit }
         ensures in_after { result ≡ Ok In → Told D.tells self.old → self.new.counting.payloads ≡ after_doubt self.old }
         ensures out_before { result ≡ Ok Out → Told D.tells self.old → self.new.counting.payloads ≡ self.old.counting.payloads }
+        ensures exact { IfOk result (λ settled. Told D.tells self.old → (settled ≡ Out) ↔ (take 1 (drop self.old.counting.end (D.seen self.old.counting.disk)) ≡ 0 ∷ [])) }
+        ensures in_end { result ≡ Ok In → self.new.counting.end ≡ self.old.counting.end + (5 + doubted_length self.old.counting.standing) }
+        ensures out_end { result ≡ Ok Out → self.new.counting.end ≡ self.old.counting.end }
+        ensures writes_nothing { Told D.tells self.old → D.seen self.new.counting.disk ≡ D.seen self.old.counting.disk }
+        ensures adds_no_image { Told D.tells self.old → AddsNone (D.may_leave self.old.counting.disk) (D.may_leave self.new.counting.disk) }
         ensures rests { OnOk result (self.new.doubt ≡ Nothing) }
         ensures in_doubt { OnErr result (self.new.doubt ≡ self.old.doubt) }
         ensures after { OnErr result (Told D.tells self.old → after_doubt self.new ≡ after_doubt self.old) }
@@ -315,6 +334,13 @@ impl<D: Disk> PairLog<D> {
         requires { self.old.doubt ≡ Rewrite }
         ensures in_after { result ≡ Ok In → Told D.tells self.old → self.new.counting.payloads ≡ after_doubt self.old }
         ensures out_before { result ≡ Ok Out → Told D.tells self.old → self.new.counting.payloads ≡ self.old.counting.payloads }
+        ensures exact { IfOk result (λ settled. Told D.tells self.old → (settled ≡ Out) ↔ (take 1 (drop self.old.other.end (D.seen self.old.other.disk)) ≡ 0 ∷ [])) }
+        ensures in_end { result ≡ Ok In → self.new.counting.end ≡ self.old.other.end + (5 + doubted_length self.old.other.standing) }
+        ensures out_end { result ≡ Ok Out → self.new.counting.end ≡ self.old.counting.end }
+        ensures writes_nothing { Told D.tells self.old → D.seen (second_of self.old.swapped (first_disk self.new) (second_disk self.new)) ≡ D.seen self.old.other.disk }
+        ensures adds_no_image { Told D.tells self.old → AddsNone (D.may_leave self.old.other.disk) (D.may_leave (second_of self.old.swapped (first_disk self.new) (second_disk self.new))) }
+        ensures first_limit { first_limit self.new ≡ first_limit self.old }
+        ensures second_limit { second_limit self.new ≡ second_limit self.old }
         ensures rests { OnOk result (self.new.doubt ≡ Nothing) }
         ensures in_doubt { OnErr result (self.new.doubt ≡ self.old.doubt) }
         ensures after { OnErr result (Told D.tells self.old → after_doubt self.new ≡ after_doubt self.old) }
@@ -347,6 +373,15 @@ impl<D: Disk> PairLog<D> {
         ensures in_after { result ≡ Ok In → Told D.tells self.old → self.new.counting.payloads ≡ after_doubt self.old }
         ensures out_before { result ≡ Ok Out → Told D.tells self.old → self.new.counting.payloads ≡ self.old.counting.payloads }
         ensures restart_is_out { self.old.doubt ≡ Restart → result ≡ Ok Out }
+        ensures exact { IfOk result (λ settled. Told D.tells self.old → (self.old.doubt ≡ Restart → ⊥) → (settled ≡ Out) ↔ (take 1 (drop (doubted_log self.old).end (D.seen (doubted_log self.old).disk)) ≡ 0 ∷ [])) }
+        ensures in_end { result ≡ Ok In → self.new.counting.end ≡ (doubted_log self.old).end + (5 + doubted_length (doubted_log self.old).standing) }
+        ensures out_end { result ≡ Ok Out → self.new.counting.end ≡ self.old.counting.end }
+        ensures first_kept { Told D.tells self.old → D.seen (first_disk self.new) ≡ D.seen (first_disk self.old) }
+        ensures second_kept { Told D.tells self.old → D.seen (second_disk self.new) ≡ D.seen (second_disk self.old) }
+        ensures first_adds { Told D.tells self.old → AddsNone (D.may_leave (first_disk self.old)) (D.may_leave (first_disk self.new)) }
+        ensures second_adds { Told D.tells self.old → AddsNone (D.may_leave (second_disk self.old)) (D.may_leave (second_disk self.new)) }
+        ensures first_limit { first_limit self.new ≡ first_limit self.old }
+        ensures second_limit { second_limit self.new ≡ second_limit self.old }
         ensures rests { OnOk result (self.new.doubt ≡ Nothing) }
         ensures in_doubt { OnErr result (self.new.doubt ≡ self.old.doubt) }
         ensures after { OnErr result (Told D.tells self.old → after_doubt self.new ≡ after_doubt self.old) }
@@ -355,6 +390,8 @@ impl<D: Disk> PairLog<D> {
         ensures any_moment { Told D.tells self.old → PairLeaves D.moment D.left_since self.old self.new (IsEither self.old.counting.payloads (after_doubt self.old)) }
         ensures images { Told D.tells self.old → PairReads D.may_leave self.new (IsEither self.new.counting.payloads (after_doubt self.new)) }
         ensures cause { IsErrOf result Fault → Rose (D.faults (first_disk self.old)) (D.faults (first_disk self.new)) ⊎ Rose (D.faults (second_disk self.old)) (D.faults (second_disk self.new)) }
+        ensures first_later { D.faults (first_disk self.old) ≤ D.faults (first_disk self.new) }
+        ensures second_later { D.faults (second_disk self.old) ≤ D.faults (second_disk self.new) }
         ensures first_told { D.tells (first_disk self.new) ≡ D.tells (first_disk self.old) }
         ensures second_told { D.tells (second_disk self.new) ≡ D.tells (second_disk self.old) }
         ensures first_arms { D.arms (first_disk self.new) ≡ D.arms (first_disk self.old) }
@@ -379,10 +416,18 @@ impl<D: Disk> PairLog<D> {
         requires fits { self.old.other.end + (6 + length snapshot.now) ≤ self.old.other.limit }
         requires epoch { take 8 snapshot.now ≡ to_be_bytes w64 (next_epoch self.old.epoch) }
         ensures list { OnOk result (Told D.tells self.old → self.new.counting.payloads ≡ snapshot.now ∷ []) }
+        ensures turned { OnOk result (self.new.swapped ≡ not self.old.swapped) }
+        ensures epoch { OnOk result (self.new.epoch ≡ next_epoch self.old.epoch) }
+        ensures end { OnOk result (self.new.counting.end ≡ self.old.other.end + (5 + length snapshot.now)) }
+        ensures first_limit { first_limit self.new ≡ first_limit self.old }
+        ensures second_limit { second_limit self.new ≡ second_limit self.old }
         ensures rests { OnOk result (self.new.doubt ≡ Nothing) }
         ensures in_doubt { OnErr result (self.new.doubt ≡ Rewrite) }
         ensures after { OnErr result (Told D.tells self.old → after_doubt self.new ≡ snapshot.now ∷ []) }
-        ensures kept { OnErr result (self.new.counting.payloads ≡ self.old.counting.payloads) }
+        ensures kept { OnErr result (self.new.counting ≡ self.old.counting) }
+        ensures not_turned { OnErr result (self.new.swapped ≡ self.old.swapped) }
+        ensures epoch_kept { OnErr result (self.new.epoch ≡ self.old.epoch) }
+        ensures stood { OnErr result ((self.new.other.standing ≡ InDoubt snapshot.now) × (self.new.other.end ≡ self.old.other.end)) }
         ensures only_fault { OnErr result (IsErrOf result Fault) }
         ensures other_moment { Told D.tells self.old → LeavesOnly (D.moment self.old.other.disk) (D.moment (second_of self.old.swapped (first_disk self.new) (second_disk self.new)))
             (D.left_since self.old.other.disk) (D.left_since (second_of self.old.swapped (first_disk self.new) (second_disk self.new)))
@@ -414,12 +459,20 @@ impl<D: Disk> PairLog<D> {
         requires room { 0 < self.old.other.spare }
         requires epoch { take 8 snapshot.now ≡ to_be_bytes w64 (next_epoch self.old.epoch) }
         ensures list { OnOk result (Told D.tells self.old → self.new.counting.payloads ≡ snapshot.now ∷ []) }
+        ensures turned { OnOk result (self.new.swapped ≡ not self.old.swapped) }
+        ensures epoch { OnOk result (self.new.epoch ≡ next_epoch self.old.epoch) }
+        ensures end { OnOk result (self.new.counting.end ≡ 5 + length snapshot.now) }
+        ensures first_limit { first_limit self.new ≡ first_limit self.old }
+        ensures second_limit { second_limit self.new ≡ second_limit self.old }
         ensures rests { OnOk result (self.new.doubt ≡ Nothing) }
         ensures full { IsErrOf result Full ↔ self.old.other.limit < 6 + length snapshot.now }
         ensures nothing_changed { IsErrOf result Full → self.new ≡ self.old }
         ensures in_doubt { IsErrOf result Fault → (self.new.doubt ≡ Rewrite) ⊎ (self.new.doubt ≡ Restart) }
         ensures after { IsErrOf result Fault → Told D.tells self.old → self.new.doubt ≡ Rewrite → after_doubt self.new ≡ snapshot.now ∷ [] }
-        ensures kept { OnErr result (self.new.counting.payloads ≡ self.old.counting.payloads) }
+        ensures kept { OnErr result (self.new.counting ≡ self.old.counting) }
+        ensures not_turned { OnErr result (self.new.swapped ≡ self.old.swapped) }
+        ensures epoch_kept { OnErr result (self.new.epoch ≡ self.old.epoch) }
+        ensures stood { IsErrOf result Fault → self.new.doubt ≡ Rewrite → (self.new.other.standing ≡ InDoubt snapshot.now) × (self.new.other.end ≡ 0) }
         ensures never_memory { IsErrOf result Memory → ⊥ }
         ensures any_moment { Told D.tells self.old → PairLeaves D.moment D.left_since self.old self.new (IsEither self.old.counting.payloads (snapshot.now ∷ [])) }
         ensures other_moment { Told D.tells self.old → LeavesOnly (D.moment self.old.other.disk) (D.moment (second_of self.old.swapped (first_disk self.new) (second_disk self.new)))
@@ -446,6 +499,10 @@ impl<D: Disk> PairLog<D> {
     pub fn arm(&mut self, disk: usize, call: u32) -> Result<(), AllocError>
         requires { disk < 2 }
         ensures list { Told D.tells self.old → self.new.counting.payloads ≡ self.old.counting.payloads }
+        ensures after { Told D.tells self.old → after_doubt self.new ≡ after_doubt self.old }
+        ensures end { self.new.counting.end ≡ self.old.counting.end }
+        ensures limit { self.new.counting.limit ≡ self.old.counting.limit }
+        ensures limit_other { self.new.other.limit ≡ self.old.other.limit }
         ensures doubt { self.new.doubt ≡ self.old.doubt }
         ensures epoch { self.new.epoch ≡ self.old.epoch }
         ensures swapped { self.new.swapped ≡ self.old.swapped }
@@ -453,8 +510,14 @@ impl<D: Disk> PairLog<D> {
         ensures spare_other { self.new.other.spare ≡ self.old.other.spare }
         ensures first_told { D.tells (first_disk self.new) ≡ D.tells (first_disk self.old) }
         ensures second_told { D.tells (second_disk self.new) ≡ D.tells (second_disk self.old) }
+        ensures first_kept { Told D.tells self.old → D.seen (first_disk self.new) ≡ D.seen (first_disk self.old) }
+        ensures second_kept { Told D.tells self.old → D.seen (second_disk self.new) ≡ D.seen (second_disk self.old) }
+        ensures first_images { Told D.tells self.old → AddsNone (D.may_leave (first_disk self.old)) (D.may_leave (first_disk self.new)) }
+        ensures second_images { Told D.tells self.old → AddsNone (D.may_leave (second_disk self.old)) (D.may_leave (second_disk self.new)) }
         ensures first_faults { D.faults (first_disk self.new) ≡ D.faults (first_disk self.old) }
         ensures second_faults { D.faults (second_disk self.new) ≡ D.faults (second_disk self.old) }
+        ensures first_arms { D.arms (first_disk self.old) ≤ D.arms (first_disk self.new) }
+        ensures second_arms { D.arms (second_disk self.old) ≤ D.arms (second_disk self.new) }
     {
         if (disk == 1) == self.swapped {
             self.counting.arm(0, call)?;

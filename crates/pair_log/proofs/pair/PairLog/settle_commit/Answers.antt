@@ -2,7 +2,7 @@ use Rattle.std.proofs.Common.{◌≡◌, ap, ◌∙◌, length}
 use Rattle.pair_log.specs.declared.doubt.Doubt.TheVariants.{Commit}
 use Rattle.pair_log.specs.PlainPair.{PlainPair}
 use Rattle.pair_log.proofs.PairLemmas.{pair_has}
-use Rattle.pair_log.proofs.SettleLemmas.{settle_moment, settled_later, settled_pair, settled_some}
+use Rattle.pair_log.proofs.SettleLemmas.{counting_moment, settled_later, settled_pair, settled_some}
 use Rattle.pair_log.proofs.pair.PairLog.settle_commit.Goals as goal
 
 pub invariant_of-self-2 : goal.invariant_of-self-2
@@ -18,7 +18,7 @@ invariant_of-self-2 g c =
 
 pub returns-clause-any_moment : goal.returns-clause-any_moment
 returns-clause-any_moment g c = rw (← c.self.view_is) (λ told.
-    settle_moment g.D.Disk.tells g.D.Disk.may_leave g.D.Disk.moment g.D.Disk.left_since _ c.settle.new.self.disk c.self.invariant told
+    counting_moment g.D.Disk.tells g.D.Disk.may_leave g.D.Disk.moment g.D.Disk.left_since _ c.settle.new.self.disk c.self.invariant told
     (c.settle.ensures.any_moment told.0).each (λ b left. g.met.D.Disk.only_now c.self.inside.other.disk b told.1 left))
 
 pub returns-clause-images : goal.returns-clause-images
