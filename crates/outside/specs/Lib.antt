@@ -1,6 +1,8 @@
 pub mod Cause
 pub mod Clock
 pub mod DiskModel
+pub mod Along
+pub mod Torn
 pub mod Memory
 pub mod Sink
 pub mod Source

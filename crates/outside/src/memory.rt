@@ -1,5 +1,5 @@
 // A source and a sink in memory, which fail at the calls that they are told.
-ghost use Rattle.std.specs.Prelude.{◌≡◌, ◌↔◌, ◌+◌, ◌<◌, ◌≤◌, [], ◌++◌, length, drop, min, vec_len, IfOk, OnOk, OnErr, IsErr, Contains, is_ok, if◌then◌else◌, Some};
+ghost use Rattle.std.specs.Prelude.{◌≡◌, ◌↔◌, ◌+◌, ◌<◌, ◌≤◌, [], ◌++◌, ◌∷◌, length, drop, min, vec_len, IfOk, OnOk, OnErr, IsErr, Contains, is_ok, if◌then◌else◌, Some};
 ghost use Rattle.std.specs.Io.KnownBytes.{IsAtEnd};
 ghost use Rattle.outside.specs.Cause.{HasCause, next_count};
 ghost use Rattle.outside.specs.Memory.{Supply, Store};
@@ -7,6 +7,7 @@ ghost use Rattle.outside.specs.Sink.{Puts, PutsFront};
 ghost use Rattle.outside.specs.Source.{TakesFront};
 
 use crate::{Failed, Sink, Source};
+use history::History;
 use std::alloc::Global;
 use std::marker::Model;
 
@@ -15,6 +16,8 @@ use std::marker::Model;
 pub struct VecSource {
     bytes: Vec<u8>,
     at: usize,
+    /// How many bytes each take gave.
+    gave: History<usize>,
     failing: Vec<u64>,
     calls: u64,
     faults: u64,
@@ -25,6 +28,7 @@ impl Model for VecSource {
 
     ghost view = { λ s. record {
       left = drop s.at s.bytes.items;
+      gave = s.gave.items;
       failing = s.failing.items;
       calls = s.calls;
       faults = s.faults;
@@ -36,11 +40,18 @@ impl Model for VecSource {
 impl VecSource {
     /// A source of these bytes. The calls with the numbers in `failing`, from 1, fail.
     pub fn new(bytes: Vec<u8>, failing: Vec<u64>) -> VecSource
-        ensures { result ≡ record { left = bytes.items; failing = failing.items; calls = 0; faults = 0 } }
+        ensures { result ≡ record {
+          left = bytes.items;
+          gave = [];
+          failing = failing.items;
+          calls = 0;
+          faults = 0;
+        } }
     {
         VecSource {
             bytes,
             at: 0,
+            gave: History::new(),
             failing,
             calls: 0,
             faults: 0,
@@ -53,10 +64,16 @@ impl Source for VecSource {
 
     ghost left = { λ s. Some s.left };
 
+    ghost gave = { λ s. s.gave };
+
     fn take(&mut self, into: &mut [u8]) -> Result<usize, Failed>
         ensures room { IfOk result (λ n. n ≤ length into.new) }
-        ensures bytes { IfOk result (λ n. TakesFront (Some self.old.left) (Some self.new.left) n into.new) }
-        ensures end { IfOk result (λ n. n ≡ 0 → 0 < length into.new → IsAtEnd (Some self.old.left)) }
+        ensures bytes { IfOk result
+            (λ n. TakesFront (Some self.old.left) (Some self.new.left) n into.new) }
+        ensures end { IfOk result
+            (λ n. n ≡ 0 → 0 < length into.new → IsAtEnd (Some self.old.left)) }
+        ensures gave { IfOk result (λ n. self.new.gave ≡ self.old.gave ++ n ∷ []) }
+        ensures gave_nothing { OnErr result (self.new.gave ≡ self.old.gave) }
         ensures cause { HasCause self.old.faults self.new.faults result }
         ensures count { IfOk result (λ n. n ≡ min (length into.new) (length self.old.left)) }
         ensures fails { IsErr result ↔ Contains self.old.failing (next_count self.old.calls) }
@@ -74,6 +91,7 @@ impl Source for VecSource {
         let count = into.len().min(self.bytes.len() - self.at);
         into[..count].copy_from_slice(&self.bytes[self.at..self.at + count]);
         self.at += count;
+        self.gave = self.gave.and(&count);
         Ok(count)
     }
 }
@@ -128,7 +146,8 @@ impl Sink for VecSink {
     /// then put.
     fn put(&mut self, piece: &[u8]) -> Result<(), Failed>
         ensures ok { OnOk result (Puts (Some self.old.taken) (Some self.new.taken) piece.now) }
-        ensures err { OnErr result (PutsFront (Some self.old.taken) (Some self.new.taken) piece.now) }
+        ensures err { OnErr result
+            (PutsFront (Some self.old.taken) (Some self.new.taken) piece.now) }
         ensures cause { HasCause self.old.faults self.new.faults result }
         ensures fails { Contains self.old.failing (next_count self.old.calls) → IsErr result }
         ensures failed { OnErr result (self.new.taken ≡ self.old.taken) }

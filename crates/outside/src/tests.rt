@@ -1,11 +1,12 @@
 // Sources and sinks at their types, and through their bounds.
 ghost use Rattle.std.specs.Prelude.{◌≡◌, ◌<◌, ◌++◌, IsTrue, IfSome, OnOk, OnErr};
 ghost use Rattle.outside.specs.Cause.{HasCause};
-ghost use Rattle.outside.specs.DiskModel.{LeavesOnly, Only, Torn};
+ghost use Rattle.outside.specs.DiskModel.{LeavesOnly, Only, Runs, Torn};
 ghost use Rattle.outside.specs.Sink.{Puts, PutsFront};
 
 use crate::{Clock, Disk, Failed, Input, Output, Sink, Source, StepClock, VecSink, VecSource};
 use std::alloc::Global;
+use std::io::{self, Write};
 use std::test::Fail;
 
 // Reads to the end, by pieces of three bytes. `None` where memory is refused, the source fails or there is no end.
@@ -35,8 +36,10 @@ fn read_memory(alloc: Global, bytes: Vec<u8>) -> Option<Vec<u8>>
 // Puts two pieces.
 #[tactic(auto, using(crate::specs::Sink::puts_front_first, crate::specs::Sink::puts_front_then))]
 fn put_both<S: Sink>(sink: &mut S, first: &[u8], second: &[u8]) -> Result<(), Failed>
-    ensures ok { OnOk result (Puts (S.taken sink.old) (S.taken sink.new) (first.now ++ second.now)) }
-    ensures err { OnErr result (PutsFront (S.taken sink.old) (S.taken sink.new) (first.now ++ second.now)) }
+    ensures ok { OnOk result
+        (Puts (S.taken sink.old) (S.taken sink.new) (first.now ++ second.now)) }
+    ensures err { OnErr result
+        (PutsFront (S.taken sink.old) (S.taken sink.new) (first.now ++ second.now)) }
     ensures cause { HasCause (S.faults sink.old) (S.faults sink.new) result }
 {
     sink.put(first)?;
@@ -95,14 +98,37 @@ fn a_writer_is_a_sink(rt: HostRuntime) -> Result<(), Fail> {
 
 // Writes one byte and syncs it: at any moment a crash leaves the bytes as they were but for that one.
 fn write_synced<D: Disk>(disk: &mut D, at: u64, byte: u8) -> Result<(), Failed>
-    requires within { at < D.size_of disk.old }
-    requires durable { IsTrue (D.tells disk.old) → Only (D.seen disk.old) (D.may_leave disk.old) }
-    ensures durable { OnOk result (IsTrue (D.tells disk.old) → Only (D.seen disk.new) (D.may_leave disk.new)) }
-    ensures any_moment { IsTrue (D.tells disk.old) → LeavesOnly (D.moment disk.old) (D.moment disk.new) (D.left_since disk.old) (D.left_since disk.new) (Torn at 1 (D.seen disk.old)) }
-    ensures cause { HasCause (D.faults disk.old) (D.faults disk.new) result }
+    requires within { at < (D.state disk.old).size }
+    requires durable { Only (D.state disk.old).seen (D.state disk.old).may_leave }
+    ensures durable { OnOk result (Only (D.state disk.new).seen (D.state disk.new).may_leave) }
+    ensures any_moment { LeavesOnly (D.state disk.old) (D.state disk.new)
+        (Torn at 1 (D.state disk.old).seen) }
+    ensures run { Runs 2 2 (D.state disk.old) (D.state disk.new) result }
+    ensures cause { HasCause (D.state disk.old).faults (D.state disk.new).faults result }
 {
     disk.write_at(at, &[byte])?;
     disk.sync()?;
+    Ok(())
+}
+
+// A writer that takes all and whose flush fails.
+#[derive(Drop)]
+struct NeverFlushed;
+
+impl Write for NeverFlushed {
+    fn write(&mut self, bytes: &[u8]) -> io::Result<usize> {
+        Ok(bytes.len())
+    }
+
+    fn flush(&mut self) -> io::Result<()> {
+        Err(io::Error::from(io::ErrorKind::Other))
+    }
+}
+
+#[test]
+fn a_flush_that_fails_is_a_fault(rt: HostRuntime) -> Result<(), Fail> {
+    let mut sink = Output::new(NeverFlushed);
+    assert_eq!(rt; sink.put(b"put"), Err(Failed));
     Ok(())
 }
 
