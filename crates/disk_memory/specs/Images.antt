@@ -1,7 +1,8 @@
 -- What a crash may leave of a disk in memory, and the five images that a script can choose.
-use Rattle.std.specs.Prelude.{ℕ, ◌≡◌, ◌⊎◌, ◌+◌, ◌/◌, ◌==◌, nat_le, if◌then◌else◌, List, [], ◌∷◌, length, take, drop, replicate, refl}
-use Rattle.outside.specs.DiskModel.{Torn}
-use Rattle.disk_memory.specs.PlainDisk.{PlainWrite, State, PlainDisk, laid_at, written_at, grown}
+use Rattle.std.specs.Prelude.{ℕ, ◌≡◌, ◌⊎◌, ◌+◌, ◌/◌, ◌==◌, true, nat_le, if◌then◌else◌, List, [], ◌∷◌, length, take, drop, replicate, refl}
+use Rattle.outside.specs.DiskModel.{DiskState, Torn, written_at}
+use Rattle.disk_memory.specs.PlainDisk.{PlainWrite, State, PlainDisk, laid_at, grown, rested, seen_bytes}
+use Rattle.disk_memory.specs.declared.images.TheConstants.{FILL_A5, FILL_01}
 
 -- any bytes in the range of each pending write
 abbrev pub IsImageOf : List ℕ → List PlainWrite → List ℕ → Type 0
@@ -20,6 +21,19 @@ HadImage (s ∷ past) image = IsImage s image ⊎ HadImage past image
 abbrev pub LeftSince : State → List State → ℕ → List ℕ → Type 0
 LeftSince s past t image = IsImage s image ⊎ HadImage (drop t past) image
 
+-- what the trait's proofs know of it
+abbrev pub disk_state : PlainDisk → DiskState
+disk_state d = record {
+  tells = true;
+  size = length (seen_bytes d);
+  seen = seen_bytes d;
+  may_leave = IsImage d.state;
+  calls = length d.past;
+  left_since = LeftSince d.state d.past;
+  faults = d.faults;
+  arms = d.arms;
+}
+
 -- the intended bytes; the first half of them, and past the old end 00; and one byte everywhere in the range
 abbrev pub whole : PlainWrite → List ℕ → List ℕ
 whole w old = laid_at w.at w.bytes old
@@ -37,8 +51,8 @@ with_write n w old =
     if n == 0 then old
     else if n == 1 then whole w old
     else if n == 2 then half w old
-    else if n == 3 then filled 165 w old
-    else filled 1 w old
+    else if n == 3 then filled FILL_A5 w old
+    else filled FILL_01 w old
 
 abbrev pub image_after : ℕ → List ℕ → List PlainWrite → List ℕ
 image_after n base [] = base
@@ -47,15 +61,16 @@ image_after n base (w ∷ ws) = image_after n (with_write n w base) ws
 abbrev pub image_of : ℕ → State → List ℕ
 image_of n s = image_after n s.base s.writes
 
--- what a crash leaves as a disk of its own
+-- What a crash leaves as a disk of its own: that image, with nothing pending and no call made yet. The counts and the
+-- failures that are still to come stay.
 abbrev pub crashed : ℕ → PlainDisk → PlainDisk
 crashed n d = record {
-  state = record { base = image_of n d.state; writes = [] };
+  state = rested (image_of n d.state);
   past = [];
-  faults = 0;
-  arms = 0;
-  calls = 0;
-  failing = [];
+  faults = d.faults;
+  arms = d.arms;
+  number = d.number;
+  failing = d.failing;
   starved = d.starved;
 }
 

@@ -1,35 +1,12 @@
 -- Laws of the images: what reads give is one of them, each that a script can choose is one, and a write tears them.
-use Rattle.std.proofs.Common.{◌≡◌, inl, inr, ℕ, ◌+◌, ◌-◌, ◌/◌, ◌==◌, ◌≤◌, ◌<◌, Bool, true, false, nat_le, if◌then◌else◌, List, [], ◌∷◌, ◌++◌, length, take, drop, replicate, refl, sym, ap, ◌∙◌, arith, length-append, length-drop, length-take}
+use Rattle.std.proofs.Common.{◌≡◌, inl, inr, ℕ, ◌+◌, ◌-◌, ◌/◌, ◌==◌, ◌≤◌, ◌<◌, Bool, true, false, nat_le, if◌then◌else◌, List, [], ◌∷◌, ◌++◌, length, take, drop, replicate, refl, sym, ap, ◌∙◌, arith, length-append, length-take}
 use Rattle.std.proofs.lemmas.Bool.{leb-true, leb-false}
-use Rattle.std.proofs.lemmas.List.{take_at, length-take-le, length-replicate, take-append-le, drop_all, append-nil}
-use Rattle.std.proofs.lemmas.Slice.{drop-append-drop}
-use Rattle.outside.specs.DiskModel.{Torn}
-use Rattle.disk_memory.specs.PlainDisk.{PlainWrite, State, written_at, laid_at, grown, seen_after, seen_of}
+use Rattle.std.proofs.lemmas.List.{length-replicate, take-append-le, drop_all, append-nil}
+use Rattle.outside.specs.DiskModel.{Torn, written_at}
+use Rattle.outside.specs.Torn.{length_written, torn_same, torn_written}
+use Rattle.disk_memory.specs.PlainDisk.{PlainWrite, State, laid_at, grown, seen_after, seen_of}
+use Rattle.disk_memory.specs.declared.images.TheConstants.{FILL_A5, FILL_01}
 use Rattle.disk_memory.specs.Images.{IsImageOf, IsImage, HadImage, LeftSince, whole, half, filled, with_write, image_after}
-
--- nothing was written
-pub torn_same : (at count : ℕ) (old : List ℕ) → Torn at count old old
-torn_same at count old = record { before = refl; after = refl; no_shorter = omega arith; no_longer = omega arith }
-
-pub length_written : (at : ℕ) (piece old : List ℕ) → at ≤ length old → length (written_at at piece old) ≡ at + length piece + (length old - (at + length piece))
-length_written at piece old h =
-    omega (
-      arith,
-      length-append (take at old ++ piece) (drop (at + length piece) old),
-      length-append (take at old) piece,
-      length-take-le at old h,
-      length-drop (at + length piece) old,
-    )
-
-pub torn_written : (at count : ℕ) (piece old : List ℕ) → length piece ≤ count → at ≤ length old → Torn at count old (written_at at piece old)
-torn_written at count piece old short h =
-    let front : length (take at old ++ piece) ≡ at + length piece = omega (arith, length-append (take at old) piece, length-take-le at old h) in
-    record {
-      before = take-append-le at (take at old ++ piece) (drop (at + length piece) old) (omega (arith, front)) ∙ take_at (take at old) piece at (length-take-le at old h);
-      after = drop-append-drop (at + length piece) old (take at old ++ piece) (at + count) (omega (arith, short)) front;
-      no_shorter = omega (arith, length_written at piece old h);
-      no_longer = omega (arith, short, length_written at piece old h);
-    }
 
 pub torn_grown : (at count : ℕ) (old new : List ℕ) → at ≤ length new → Torn at count old new → Torn at count old (grown (at + count) new)
 torn_grown at count old new h torn =
@@ -78,13 +55,13 @@ pub torn_with_write : (n : ℕ) (w : PlainWrite) (old : List ℕ) → Torn w.at 
 torn_with_write n w old = by_number (n == 0) (n == 1) (n == 2) (n == 3)
   where
     by_number : (b₀ b₁ b₂ b₃ : Bool) → Torn w.at (length w.bytes) old
-        (if b₀ then old else if b₁ then whole w old else if b₂ then half w old else if b₃ then filled 165 w old else filled 1 w old)
+        (if b₀ then old else if b₁ then whole w old else if b₂ then half w old else if b₃ then filled FILL_A5 w old else filled FILL_01 w old)
     by_number true b₁ b₂ b₃ = torn_same w.at (length w.bytes) old
     by_number false true b₂ b₃ = torn_laid w.at (length w.bytes) w.bytes old (omega arith)
     by_number false false true b₃ =
         torn_grows w.at (length w.bytes) (take (length w.bytes / 2) w.bytes) old (omega (arith, length-take (length w.bytes / 2) w.bytes))
-    by_number false false false true = torn_filled 165 w old
-    by_number false false false false = torn_filled 1 w old
+    by_number false false false true = torn_filled FILL_A5 w old
+    by_number false false false false = torn_filled FILL_01 w old
 
 -- what reads give is an image
 pub seen_is_image : (base : List ℕ) (ws : List PlainWrite) → IsImageOf base ws (seen_of base ws)

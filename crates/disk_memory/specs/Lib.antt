@@ -1,3 +1,4 @@
 pub mod PlainDisk
 pub mod Images
 pub mod Laws
+pub mod Kept

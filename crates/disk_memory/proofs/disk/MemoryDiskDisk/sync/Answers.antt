@@ -1,15 +1,25 @@
-use Rattle.std.proofs.Common.{◌≡◌, [], ◌∷◌, ◌++◌, rules}
-use Rattle.disk_memory.specs.PlainDisk.{settled}
-use Rattle.disk_memory.proofs.Moments.{moved_time, settled_images}
+use Rattle.std.proofs.Common.{◌≡◌, ap, rules}
+use Rattle.disk_memory.specs.PlainDisk.{PlainDisk, called, failed, synced}
+use Rattle.disk_memory.proofs.Moments.{fails_call, ends_call, settled_writes_none}
 use Rattle.disk_memory.proofs.disk.MemoryDiskDisk.sync.Goals as goal
 
-pub returns-clause-images : goal.returns-clause-images
-returns-clause-images c =
-    let is : c.settle.new.self.state ≡ settled c.args.self.now.state = search rules in
-    settled_images c.args.self.now c.settle.new.self is
+pub returns-then-call-clause-called : goal.returns-then-call-clause-called
+returns-then-call-clause-called c =
+    let old = c.args.self.now in
+    let new = c.call.new.self in
+    let is : new ≡ failed (called old) = search rules in
+    fails_call old new _ (ap (λ (d : PlainDisk). d.past) is) (ap (λ (d : PlainDisk). d.arms) is) (ap (λ (d : PlainDisk). d.faults) is) c.call.ensures.bound
 
-pub returns-clause-time : goal.returns-clause-time
-returns-clause-time c =
-    let is : c.settle.new.self.state ≡ settled c.args.self.now.state = search rules in
-    let was : c.settle.new.self.past ≡ c.args.self.now.past ++ c.args.self.now.state ∷ [] = search rules in
-    moved_time c.args.self.now c.settle.new.self _ is was
+pub returns-clause-called : goal.returns-clause-called
+returns-clause-called c =
+    let old = c.args.self.now in
+    let new = c.settle.new.self in
+    let is : new ≡ synced (called old) = search rules in
+    ends_call old new _ (ap (λ (d : PlainDisk). d.past) is) (ap (λ (d : PlainDisk). d.arms) is) (ap (λ (d : PlainDisk). d.faults) is)
+
+pub returns-clause-writes_none : goal.returns-clause-writes_none
+returns-clause-writes_none c =
+    let old = c.args.self.now in
+    let new = c.settle.new.self in
+    let is : new ≡ synced (called old) = search rules in
+    settled_writes_none old new (ap (λ (d : PlainDisk). d.state) is)
