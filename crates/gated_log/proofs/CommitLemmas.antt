@@ -1,7 +1,8 @@
 -- From one device call of a commit to the next.
-use Rattle.std.proofs.Common.{ℕ, ◌+◌, ◌^◌, ◌<◌, ◌≡◌, inl, inr, List, [], ◌∷◌, ◌++◌, length, take, drop, refl, sym, ap, subst, ◌∙◌, append_assoc}
+use Rattle.std.proofs.Common.{ℕ, arith, ◌+◌, ◌^◌, ◌<◌, ◌≡◌, inl, inr, List, [], ◌∷◌, ◌++◌, length, take, drop, refl, sym, ap, subst, ◌∙◌, append_assoc}
 use lib.Seq.{take-append_seam}
 use Rattle.outside.specs.DiskModel.{Torn, Holds, Follows, Only}
+use Rattle.outside.specs.Torn.{torn_then, torn_wider}
 use Rattle.gated_log.specs.Records.{records, body_bytes}
 use Rattle.gated_log.specs.Stands.{Stands, StandsWith, IsBeforeOrAfter, IsInCommit}
 use Rattle.gated_log.proofs.CrashLemmas.{body_torn, gate_torn, before_or_after, stands_records, drop_front, open_stands}
@@ -60,3 +61,10 @@ pub written_stands : (payloads : List (List ℕ)) (payload : List ℕ) (place : 
 written_stands payloads payload place bytes some short s =
     subst (λ list. Stands list (place + (5 + length payload)) bytes) (sym (written_list payloads payload place bytes some short s))
     (open_stands payloads payload place 1 bytes refl some short s)
+
+-- the write of the body and that of the gate
+pub torn_record : (place count : ℕ) (old mid new : List ℕ) → Torn (place + 1) (5 + count) old mid → Torn place 1 mid new → Torn place (6 + count) old new
+torn_record place count old mid new body gate =
+    torn_then place (6 + count) old mid new
+    (torn_wider (place + 1) (5 + count) place (6 + count) old mid (omega arith) (omega arith) body)
+    (torn_wider place 1 place (6 + count) mid new (omega arith) (omega arith) gate)

@@ -1,15 +1,16 @@
 -- From what a log's disk holds to the records that its images have.
-use Rattle.std.proofs.Common.{ℕ, Bool, IsTrue, ◌+◌, ◌≤◌, ◌≡◌, inl, inr, List, [], ◌∷◌, ◌++◌, length, arith, sym, ap, subst, ◌∙◌}
+use Rattle.std.proofs.Common.{ℕ, Bool, false, IsTrue, ◌+◌, ◌≤◌, ◌≡◌, inl, inr, List, [], ◌∷◌, ◌++◌, length, arith, sym, ap, subst, ◌∙◌}
+use Rattle.std.proofs.lemmas.Bool.{true≢false}
 use Rattle.outside.specs.DiskModel.{AddsNone}
 use Rattle.gated_log.specs.declared.span.Span.{Span}
-use Rattle.gated_log.specs.PlainLog.{AllHave, AtRest, HoldsList, InDoubt, IsLog, IsReady, IsReadyFor, IsTold, Lost, Standing, payloads_at, spans_from}
+use Rattle.gated_log.specs.PlainLog.{AllHave, AtRest, HoldsList, InDoubt, IsLog, IsReady, IsReadyFor, IsTold, Lost, Standing, end_of, is_lost, payloads_at, spans_from}
 use Rattle.gated_log.specs.Opens.{AreOpen}
 use Rattle.gated_log.specs.Records.{records}
 use Rattle.gated_log.specs.Stands.{IsInCommit, IsInDoubt, IsStanding, Stands}
 use Rattle.gated_log.proofs.CommitLemmas.{in_commit}
 use Rattle.gated_log.proofs.FindLemmas.{within_more}
 use Rattle.gated_log.proofs.MountLemmas.{rest_told, stands_payloads}
-use Rattle.gated_log.proofs.SpanLemmas.{one_more_span, payloads_are}
+use Rattle.gated_log.proofs.SpanLemmas.{ends_at, one_more_span, payloads_are}
 
 pub holds_has : (standing : Standing) (payloads : List (List ℕ)) (spare end : ℕ) (seen : List ℕ) (images : List ℕ → Type 0) → IsReadyFor standing spare end
     → HoldsList standing payloads end seen images → AllHave standing payloads images
@@ -22,6 +23,21 @@ holds_has Lost payloads spare end seen images ready holds = λ image left. tt
 pub log_has : (tells : Bool) (size : ℕ) (seen : List ℕ) (images : List ℕ → Type 0) (spans : List Span) (spare end : ℕ) (standing : Standing)
     → IsLog tells size seen images spans spare end standing → IsTrue tells → AllHave standing (payloads_at seen spans) images
 log_has tells size seen images spans spare end standing log told = holds_has standing (payloads_at seen spans) spare end seen images log.ready (log.told told)
+
+-- its end is that of its records
+pub log_end : (tells : Bool) (size : ℕ) (seen : List ℕ) (images : List ℕ → Type 0) (spans : List Span) (spare end : ℕ) (standing : Standing)
+    → IsLog tells size seen images spans spare end standing → is_lost standing ≡ false → IsTrue tells → end ≡ end_of (payloads_at seen spans)
+log_end tells size seen images spans spare end AtRest log kept told =
+    let (list, (stands, only)) = log.told told in
+    sym stands.ends ∙ (ends_at (records seen) stands.front stands.are_open ∙ ap end_of list)
+log_end tells size seen images spans spare end Lost log kept told = absurd (true≢false kept)
+log_end tells size seen images spans spare end (InDoubt payload) log kept told =
+    let doubt : IsInDoubt (payloads_at seen spans) payload end seen images = log.told told in
+    doubted_end (payloads_at seen spans) payload end seen doubt.reads
+  where
+    doubted_end : (payloads : List (List ℕ)) (payload : List ℕ) (end : ℕ) (bytes : List ℕ) → IsInCommit payloads payload end bytes → end ≡ end_of payloads
+    doubted_end payloads payload end bytes (inl s) = sym s.ends ∙ ends_at payloads s.front s.are_open
+    doubted_end payloads payload end bytes (inr (gate, s)) = sym s.ends ∙ ends_at payloads s.front s.are_open
 
 -- the same with fewer images of the same bytes
 pub log_still_has : (tells : Bool) (size : ℕ) (seen later : List ℕ) (images fewer : List ℕ → Type 0) (spans : List Span) (spare end : ℕ) (standing : Standing)

@@ -2,9 +2,10 @@
 use Rattle.std.proofs.Common.{ℕ, zero, suc, ◌+◌, ◌<◌, ◌≤◌, ◌≡◌, ◌⊎◌, inl, inr, List, [], ◌∷◌, ◌++◌, length, take, drop, None, arith, refl, sym, ap, subst, ◌∙◌, take-append-drop}
 use Rattle.std.proofs.lemmas.Bool.Decides.{nat_tests}
 use Rattle.std.proofs.lemmas.List.{drop-drop, length-drop, length-take-le, take_all}
-use Rattle.outside.specs.DiskModel.{Only}
+use Rattle.outside.specs.DiskModel.{DiskState, Elapses, LeavesOnly, Only, WritesNone, leaves_only_and, leaves_only_at_first, leaves_only_then, leaves_only_weaker}
+use Rattle.gated_log.specs.Calls.{IsRepaired}
 use Rattle.gated_log.specs.declared.span.Span.{Span}
-use Rattle.gated_log.specs.Closing.{IsClosing, WithGate}
+use Rattle.gated_log.specs.Closing.{IsClosing, IsGateTorn, WithGate}
 use Rattle.gated_log.specs.Opens.{AreOpen}
 use Rattle.gated_log.specs.PlainLog.{AtRest, IsTold, end_of, payloads_at, spans_from}
 use Rattle.gated_log.specs.Reading.{IsFound}
@@ -104,3 +105,30 @@ found_end spans end old found inside there closed =
     sym (length-take-le end old inside)
     ∙ (ends_at (payloads_at old spans) (take end old) found.are_open
     ∙ ap end_of (sym (found_records (payloads_at old spans) end old found.are_open inside there closed)))
+
+-- a mount, from its sync to the end of the repair
+module _ (old synced found closed : DiskState) (spans : List Span) (end : ℕ) (time : Elapses old synced) (calls : synced.calls ≡ old.calls + 1) (quiet : WritesNone old synced)
+    (searched : LeavesOnly synced found (λ image. image ≡ synced.seen)) (same : found.seen ≡ synced.seen) (closing : LeavesOnly found closed (IsClosing end found.seen))
+    (is_found : IsFound spans end synced.seen) (inside : end ≤ length synced.seen) (there : 0 < end → end < length synced.seen) (no_more : front_record (drop end synced.seen) ≡ None) where
+  repaired_after : LeavesOnly synced closed (λ image. records image ≡ records old.seen)
+  repaired_after =
+      leaves_only_and synced found closed (λ image. records image ≡ records old.seen) (IsClosing end found.seen)
+      (leaves_only_weaker synced found (λ image. image ≡ synced.seen) (λ image. records image ≡ records old.seen) searched (λ image e. ap records (e ∙ quiet.seen)))
+      closing
+      (λ image c. closing_found spans end synced.seen found.seen image is_found inside there no_more same c ∙ ap records quiet.seen)
+
+  pub mount_moments : ((image : List ℕ) → old.left_since old.calls image → old.may_leave image) → LeavesOnly old closed (λ image. old.may_leave image ⊎ (records image ≡ records old.seen))
+  mount_moments now =
+      let P : List ℕ → Type 0 = λ image. old.may_leave image ⊎ (records image ≡ records old.seen) in
+      leaves_only_and old synced closed P (λ image. records image ≡ records old.seen)
+      (leaves_only_then old old synced P (leaves_only_at_first old P now (λ image left. inl left)) time (λ image left. inl (quiet.images image left)))
+      repaired_after
+      (λ image e. inr e)
+
+  pub mount_repaired : IsRepaired old closed
+  mount_repaired = λ image left. repaired_after.each image (subst (λ n. closed.left_since n image) (sym calls) left)
+
+  pub mount_bytes : IsGateTorn end found.seen closed.seen → IsGateTorn (end_of (records old.seen)) old.seen closed.seen
+  mount_bytes torn =
+      let e : end ≡ end_of (records old.seen) = found_end spans end synced.seen is_found inside there no_more ∙ ap (λ bytes. end_of (records bytes)) quiet.seen in
+      subst (λ n. IsGateTorn n old.seen closed.seen) e (subst (λ bytes. IsGateTorn end bytes closed.seen) (same ∙ quiet.seen) torn)

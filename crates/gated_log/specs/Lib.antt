@@ -4,5 +4,6 @@ pub mod Stands
 pub mod PlainLog
 pub mod LogView
 pub mod Closing
+pub mod Calls
 pub mod Reading
 pub mod Blame

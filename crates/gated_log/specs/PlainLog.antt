@@ -49,9 +49,9 @@ HoldsList AtRest payloads end seen images = (records seen ≡ payloads) × IsSta
 HoldsList (InDoubt payload) payloads end seen images = IsInDoubt payloads payload end seen images
 HoldsList Lost payloads end seen images = Unit {0}
 
--- the gate at the end is there
+-- the gate at the end is there, of a lost log the first one
 abbrev pub IsInside : Standing → ℕ → ℕ → Type 0
-IsInside Lost end size = Unit {0}
+IsInside Lost end size = 0 < size
 IsInside standing end size = end < size
 
 -- what is in doubt fits, and there is room for it

@@ -1,11 +1,11 @@
 // A log on one disk.
-ghost use Rattle.std.specs.Prelude.{◌≡◌, ◌↔◌, ◌⊎◌, ◌+◌, ◌-◌, ◌^◌, ◌<◌, ◌≤◌, ◌==◌, [], ◌∷◌, ◌++◌, length, take, drop, slice_index_or, true, false, OnOk, OnErr, IfOk, IfErr, IsErrOf, IsTrue, Ok, vec_len, vec_capacity};
-ghost use Rattle.outside.specs.Cause.{Rose};
-ghost use Rattle.outside.specs.DiskModel.{AddsNone, LeavesOnly, SameImages, SameMoments};
+ghost use Rattle.std.specs.Prelude.{◌≡◌, ◌↔◌, ◌+◌, ◌^◌, ◌-◌, ◌<◌, ◌≤◌, [], ◌∷◌, ◌++◌, length, take, drop, slice_index_or, true, false, OnOk, OnErr, IfOk, IfErr, IsErrOf, IsTrue, Ok, vec_len, vec_capacity};
+ghost use Rattle.outside.specs.DiskModel.{IsArmed, Runs, Torn, WritesNone};
 ghost use Rattle.gated_log.specs.declared.refused.LogRefused.TheVariants.{Fault, Full, Memory};
 ghost use Rattle.gated_log.specs.declared.settled.Settled.TheVariants.{In, Out};
-ghost use Rattle.gated_log.specs.Blame.{IsBlamed};
-ghost use Rattle.gated_log.specs.Closing.{HasOldList};
+ghost use Rattle.gated_log.specs.Blame.{IsBlamed, IsBlamedFor};
+ghost use Rattle.gated_log.specs.Calls.{EachMoment, ImagesHave, IsMounting, IsRepaired, with_record};
+ghost use Rattle.gated_log.specs.Closing.{HasOldList, IsGateTorn, WithGate, closing_calls};
 ghost use Rattle.gated_log.specs.PlainLog.{AllHave, AtRest, HasList, InDoubt, Lost, doubted_length, end_of, is_in_doubt, is_lost, with_doubted};
 ghost use Rattle.gated_log.specs.Records.{records};
 ghost use Rattle.gated_log.specs.Stands.{IsBeforeOrAfter};
@@ -42,14 +42,17 @@ impl<D: Disk> Model for Log<D> {
     ghost view = { λ l. record {
       disk = l.disk;
       limit = l.limit;
-      payloads = payloads_at (D.seen l.disk) l.spans.items;
+      payloads = payloads_at (D.state l.disk).seen l.spans.items;
       end = l.end;
       spare = vec_capacity l.spans - vec_len l.spans;
       standing = standing_of l.standing;
     } };
 
-    ghost invariant = { λ l. IsLog (D.tells l.disk) (D.size_of l.disk) (D.seen l.disk) (D.may_leave l.disk) l.spans.items
-        (vec_capacity l.spans - vec_len l.spans) l.end (standing_of l.standing) × KeepsLength l.standing };
+    ghost invariant = { λ l.
+        IsLog (D.state l.disk).tells (D.state l.disk).size
+        (D.state l.disk).seen (D.state l.disk).may_leave
+        l.spans.items (vec_capacity l.spans - vec_len l.spans) l.end (standing_of l.standing)
+        × KeepsLength l.standing };
 }
 
 impl<D: Disk> Log<D> {
@@ -57,25 +60,31 @@ impl<D: Disk> Log<D> {
     /// is repaired: its end is closed again. On refusal the disk comes back.
     pub fn mount(alloc: Global, disk: D, limit: u64) -> Result<Log<D>, (D, LogRefused)>
         requires { 1 ≤ limit }
-        ensures list { IfOk result (λ log. IsTrue (D.tells disk) → log.payloads ≡ records (D.seen disk)) }
-        ensures reads { IfOk result (λ log. IsTrue (D.tells disk) → records (D.seen log.disk) ≡ records (D.seen disk)) }
-        ensures images { IfOk result (λ log. IsTrue (D.tells disk) → AllHave AtRest log.payloads (D.may_leave log.disk)) }
+        ensures list { IfOk result
+            (λ log. IsTrue (D.state disk).tells → log.payloads ≡ records (D.state disk).seen) }
+        ensures bytes { IfOk result (λ log. IsTrue (D.state disk).tells
+            → WithGate log.end 0 (D.state disk).seen (D.state log.disk).seen) }
+        ensures reads { IfOk result (λ log. IsTrue (D.state disk).tells
+            → records (D.state log.disk).seen ≡ records (D.state disk).seen) }
+        ensures images { IfOk result (λ log. IsTrue (D.state disk).tells
+            → AllHave AtRest log.payloads (D.state log.disk).may_leave) }
         ensures rests { IfOk result (λ log. log.standing ≡ AtRest) }
         ensures empty { IfOk result (λ log. length log.payloads ≡ 0 → log.end ≡ 0) }
-        ensures end { IfOk result (λ log. IsTrue (D.tells disk) → log.end ≡ end_of log.payloads) }
+        ensures end { IfOk result
+            (λ log. IsTrue (D.state disk).tells → log.end ≡ end_of log.payloads) }
         ensures limit { IfOk result (λ log. log.limit ≡ limit) }
-        ensures any_moment { IfOk result (λ log. IsTrue (D.tells disk) → LeavesOnly (D.moment disk) (D.moment log.disk) (D.left_since disk) (D.left_since log.disk)
-            (λ image. D.may_leave disk image ⊎ (records image ≡ records (D.seen disk)))) }
-        ensures any_moment_refused { IfErr result (λ refused. IsTrue (D.tells disk) → LeavesOnly (D.moment disk) (D.moment refused.0) (D.left_since disk) (D.left_since refused.0)
-            (λ image. D.may_leave disk image ⊎ (records image ≡ records (D.seen disk)))) }
+        ensures mounting { IfOk result (λ log. IsMounting (D.state disk) (D.state log.disk)) }
+        ensures repaired { IfOk result (λ log. IsTrue (D.state disk).tells
+            → IsRepaired (D.state disk) (D.state log.disk)) }
+        ensures least { IfOk result (λ log.
+            (D.state disk).calls + (length log.payloads + 2) ≤ (D.state log.disk).calls) }
+        ensures most { IfOk result (λ log.
+            (D.state log.disk).calls ≤ (D.state disk).calls + (length log.payloads + 5)) }
+        ensures no_fault { IfOk result (λ log. (D.state log.disk).faults ≡ (D.state disk).faults) }
+        ensures refused { IfErr result (λ refused. IsMounting (D.state disk) (D.state refused.0)) }
         ensures never_full { IfErr result (λ refused. refused.1 ≡ Full → ⊥) }
-        ensures fault { IfErr result (λ refused. refused.1 ≡ Fault → Rose (D.faults disk) (D.faults refused.0)) }
-        ensures later { IfOk result (λ log. D.faults disk ≤ D.faults log.disk) }
-        ensures later_refused { IfErr result (λ refused. D.faults disk ≤ D.faults refused.0) }
-        ensures tells { IfOk result (λ log. D.tells log.disk ≡ D.tells disk) }
-        ensures tells_refused { IfErr result (λ refused. D.tells refused.0 ≡ D.tells disk) }
-        ensures arms { IfOk result (λ log. D.arms log.disk ≡ D.arms disk) }
-        ensures arms_refused { IfErr result (λ refused. D.arms refused.0 ≡ D.arms disk) }
+        ensures cause { IfErr result (λ refused.
+            IsBlamedFor (D.state disk).faults (D.state refused.0).faults refused.1) }
     {
         let mut disk = disk;
         match mount_disk(alloc, &mut disk) {
@@ -104,10 +113,35 @@ impl<D: Disk> Log<D> {
         self.limit
     }
 
+    /// The place of the gate behind the records, in bytes.
+    pub fn end(&self) -> u64
+        ensures end { result ≡ self.now.end }
+        ensures behind_records { is_lost self.now.standing ≡ false
+            → IsTrue (D.state self.now.disk).tells
+            → self.now.end ≡ end_of self.now.payloads }
+    {
+        self.end
+    }
+
+    /// Whether a record would stay within the limit.
+    pub fn fits(&self, draft: &Draft) -> bool
+        ensures fits { IsTrue result ↔ self.now.end + (6 + length draft.now) ≤ self.now.limit }
+        ensures full { result ≡ false → self.now.limit < self.now.end + (6 + length draft.now) }
+    {
+        !passes(self.limit, self.end, draft.len())
+    }
+
+    /// The disk.
+    pub fn disk(&self) -> &D
+        ensures { result.now ≡ self.now.disk }
+    {
+        &self.disk
+    }
+
     /// Whether a commit failed and it is open whether its record is in the log.
     pub fn doubt(&self) -> bool
         ensures doubt { result ≡ is_in_doubt self.now.standing }
-        ensures images { IsTrue (D.tells self.now.disk) → AllHave self.now.standing self.now.payloads (D.may_leave self.now.disk) }
+        ensures images { ImagesHave D.state self.now }
     {
         match &self.standing {
             Standing::InDoubt { .. } => true,
@@ -117,13 +151,9 @@ impl<D: Disk> Log<D> {
 
     /// Makes room for one more record.
     pub fn reserve(&mut self) -> Result<(), AllocError>
+        ensures stays { self.new ≡ record self.old { spare = self.new.spare } }
         ensures room { OnOk result (0 < self.new.spare) }
         ensures more { self.old.spare ≤ self.new.spare }
-        ensures disk { self.new.disk ≡ self.old.disk }
-        ensures limit { self.new.limit ≡ self.old.limit }
-        ensures payloads { self.new.payloads ≡ self.old.payloads }
-        ensures end { self.new.end ≡ self.old.end }
-        ensures standing { self.new.standing ≡ self.old.standing }
     {
         self.spans.reserve(1)?;
         Ok(())
@@ -139,22 +169,19 @@ impl<D: Disk> Log<D> {
     ) -> Result<(), LogRefused>
         requires kept { is_lost self.old.standing ≡ false }
         requires within { k < length self.old.payloads }
-        ensures part { OnOk result (IsTrue (D.tells self.old.disk) → out.new.items ≡ out.old.items ++ take count (drop from (slice_index_or self.old.payloads k []))) }
+        ensures part { OnOk result (IsTrue (D.state self.old.disk).tells → out.new.items
+            ≡ out.old.items ++ take count (drop from (slice_index_or self.old.payloads k []))) }
         ensures short { length (slice_index_or self.old.payloads k []) ≤ 2 ^ 32 - 1 }
         ensures err { OnErr result (out.new.items ≡ out.old.items) }
-        ensures any_moment { IsTrue (D.tells self.old.disk) → LeavesOnly (D.moment self.old.disk) (D.moment self.new.disk) (D.left_since self.old.disk) (D.left_since self.new.disk)
+        ensures stays { self.new ≡ record self.old { disk = self.new.disk } }
+        ensures writes_none { WritesNone (D.state self.old.disk) (D.state self.new.disk) }
+        ensures any_moment { EachMoment (D.state self.old.disk) (D.state self.new.disk)
             (HasList self.old.standing self.old.payloads) }
-        ensures images { IsTrue (D.tells self.old.disk) → AllHave self.new.standing self.new.payloads (D.may_leave self.new.disk) }
-        ensures payloads { IsTrue (D.tells self.old.disk) → self.new.payloads ≡ self.old.payloads }
-        ensures count { length self.new.payloads ≡ length self.old.payloads }
-        ensures end { self.new.end ≡ self.old.end }
-        ensures spare { self.new.spare ≡ self.old.spare }
-        ensures limit { self.new.limit ≡ self.old.limit }
-        ensures standing { self.new.standing ≡ self.old.standing }
+        ensures images { ImagesHave D.state self.new }
+        ensures run { Runs 1 1 (D.state self.old.disk) (D.state self.new.disk) result }
         ensures never_full { IsErrOf result Full → ⊥ }
-        ensures cause { IsBlamed (D.faults self.old.disk) (D.faults self.new.disk) result }
-        ensures tells { D.tells self.new.disk ≡ D.tells self.old.disk }
-        ensures arms { D.arms self.new.disk ≡ D.arms self.old.disk }
+        ensures cause { IsBlamed (D.state self.old.disk).faults
+            (D.state self.new.disk).faults result }
     {
         let span = self.spans[k as usize];
         read_payload(&mut self.disk, part_of(span, from, count), out)
@@ -164,21 +191,18 @@ impl<D: Disk> Log<D> {
     pub fn entry(&mut self, k: u64, out: &mut Vec<u8>) -> Result<(), LogRefused>
         requires kept { is_lost self.old.standing ≡ false }
         requires within { k < length self.old.payloads }
-        ensures entry { OnOk result (IsTrue (D.tells self.old.disk) → out.new.items ≡ out.old.items ++ slice_index_or self.old.payloads k []) }
+        ensures entry { OnOk result (IsTrue (D.state self.old.disk).tells
+            → out.new.items ≡ out.old.items ++ slice_index_or self.old.payloads k []) }
         ensures err { OnErr result (out.new.items ≡ out.old.items) }
-        ensures any_moment { IsTrue (D.tells self.old.disk) → LeavesOnly (D.moment self.old.disk) (D.moment self.new.disk) (D.left_since self.old.disk) (D.left_since self.new.disk)
+        ensures stays { self.new ≡ record self.old { disk = self.new.disk } }
+        ensures writes_none { WritesNone (D.state self.old.disk) (D.state self.new.disk) }
+        ensures any_moment { EachMoment (D.state self.old.disk) (D.state self.new.disk)
             (HasList self.old.standing self.old.payloads) }
-        ensures images { IsTrue (D.tells self.old.disk) → AllHave self.new.standing self.new.payloads (D.may_leave self.new.disk) }
-        ensures payloads { IsTrue (D.tells self.old.disk) → self.new.payloads ≡ self.old.payloads }
-        ensures count { length self.new.payloads ≡ length self.old.payloads }
-        ensures end { self.new.end ≡ self.old.end }
-        ensures spare { self.new.spare ≡ self.old.spare }
-        ensures limit { self.new.limit ≡ self.old.limit }
-        ensures standing { self.new.standing ≡ self.old.standing }
+        ensures images { ImagesHave D.state self.new }
+        ensures run { Runs 1 1 (D.state self.old.disk) (D.state self.new.disk) result }
         ensures never_full { IsErrOf result Full → ⊥ }
-        ensures cause { IsBlamed (D.faults self.old.disk) (D.faults self.new.disk) result }
-        ensures tells { D.tells self.new.disk ≡ D.tells self.old.disk }
-        ensures arms { D.arms self.new.disk ≡ D.arms self.old.disk }
+        ensures cause { IsBlamed (D.state self.old.disk).faults
+            (D.state self.new.disk).faults result }
     {
         let span = self.spans[k as usize];
         read_payload(&mut self.disk, span, out)
@@ -189,24 +213,39 @@ impl<D: Disk> Log<D> {
     pub fn commit(&mut self, draft: &Draft) -> Result<(), LogRefused>
         requires rests { self.old.standing ≡ AtRest }
         requires room { 0 < self.old.spare }
-        ensures list { OnOk result (IsTrue (D.tells self.old.disk) → self.new.payloads ≡ self.old.payloads ++ draft.now ∷ []) }
+        ensures list { OnOk result (IsTrue (D.state self.old.disk).tells
+            → self.new.payloads ≡ self.old.payloads ++ draft.now ∷ []) }
+        ensures bytes { OnOk result (IsTrue (D.state self.old.disk).tells
+            → (D.state self.new.disk).seen
+            ≡ with_record self.old.end draft.now (D.state self.old.disk).seen) }
+        ensures stays { OnOk result (self.new ≡ record self.old {
+          disk = self.new.disk;
+          payloads = self.new.payloads;
+          end = self.old.end + (5 + length draft.now);
+          spare = self.new.spare;
+        }) }
         ensures count { OnOk result (length self.new.payloads ≡ length self.old.payloads + 1) }
-        ensures rests { OnOk result (self.new.standing ≡ AtRest) }
-        ensures end { OnOk result (self.new.end ≡ self.old.end + (5 + length draft.now)) }
-        ensures full { IsErrOf result Full ↔ self.old.limit < self.old.end + (6 + length draft.now) }
+        ensures full { IsErrOf result Full
+            ↔ self.old.limit < self.old.end + (6 + length draft.now) }
         ensures nothing_changed { IsErrOf result Full → self.new ≡ self.old }
-        ensures in_doubt { IsErrOf result Fault → self.new.standing ≡ InDoubt draft.now }
-        ensures kept { OnErr result (IsTrue (D.tells self.old.disk) → self.new.payloads ≡ self.old.payloads) }
+        ensures in_doubt { IsErrOf result Fault → self.new ≡ record self.old {
+          disk = self.new.disk;
+          payloads = self.new.payloads;
+          standing = InDoubt draft.now;
+        } }
+        ensures kept { OnErr result
+            (IsTrue (D.state self.old.disk).tells → self.new.payloads ≡ self.old.payloads) }
         ensures count_kept { OnErr result (length self.new.payloads ≡ length self.old.payloads) }
-        ensures end_kept { OnErr result (self.new.end ≡ self.old.end) }
+        ensures torn { IsTrue (D.state self.old.disk).tells
+            → Torn self.old.end (6 + length draft.now)
+            (D.state self.old.disk).seen (D.state self.new.disk).seen }
         ensures never_memory { IsErrOf result Memory → ⊥ }
-        ensures any_moment { IsTrue (D.tells self.old.disk) → LeavesOnly (D.moment self.old.disk) (D.moment self.new.disk) (D.left_since self.old.disk) (D.left_since self.new.disk)
+        ensures any_moment { EachMoment (D.state self.old.disk) (D.state self.new.disk)
             (IsBeforeOrAfter self.old.payloads draft.now) }
-        ensures images { IsTrue (D.tells self.old.disk) → AllHave self.new.standing self.new.payloads (D.may_leave self.new.disk) }
-        ensures limit { self.new.limit ≡ self.old.limit }
-        ensures cause { IsBlamed (D.faults self.old.disk) (D.faults self.new.disk) result }
-        ensures tells { D.tells self.new.disk ≡ D.tells self.old.disk }
-        ensures arms { D.arms self.new.disk ≡ D.arms self.old.disk }
+        ensures images { ImagesHave D.state self.new }
+        ensures run { Runs 4 4 (D.state self.old.disk) (D.state self.new.disk) result }
+        ensures cause { IsBlamed (D.state self.old.disk).faults
+            (D.state self.new.disk).faults result }
     {
         if passes(self.limit, self.end, draft.len()) {
             return Err(LogRefused::Full);
@@ -226,28 +265,32 @@ impl<D: Disk> Log<D> {
     /// doubt stays.
     pub fn settle(&mut self) -> Result<Settled, LogRefused>
         requires in_doubt { is_in_doubt self.old.standing ≡ true }
-        ensures exact { IfOk result (λ settled. IsTrue (D.tells self.old.disk) → (settled ≡ Out) ↔ (take 1 (drop self.old.end (D.seen self.old.disk)) ≡ 0 ∷ [])) }
-        ensures in_after { result ≡ Ok In → IsTrue (D.tells self.old.disk) → self.new.payloads ≡ with_doubted self.old.standing self.old.payloads }
-        ensures in_count { result ≡ Ok In → length self.new.payloads ≡ length self.old.payloads + 1 }
-        ensures out_before { result ≡ Ok Out → IsTrue (D.tells self.old.disk) → self.new.payloads ≡ self.old.payloads }
-        ensures out_count { result ≡ Ok Out → length self.new.payloads ≡ length self.old.payloads }
-        ensures in_end { result ≡ Ok In → self.new.end ≡ self.old.end + (5 + doubted_length self.old.standing) }
-        ensures out_end { result ≡ Ok Out → self.new.end ≡ self.old.end }
-        ensures end_kept { OnErr result (self.new.end ≡ self.old.end) }
+        ensures exact { IfOk result (λ settled. IsTrue (D.state self.old.disk).tells
+            → (settled ≡ Out) ↔ (take 1 (drop self.old.end (D.state self.old.disk).seen)
+            ≡ 0 ∷ [])) }
+        ensures in_after { result ≡ Ok In → IsTrue (D.state self.old.disk).tells
+            → self.new.payloads ≡ with_doubted self.old.standing self.old.payloads }
+        ensures in_count { result ≡ Ok In
+            → length self.new.payloads ≡ length self.old.payloads + 1 }
+        ensures in_stays { result ≡ Ok In → self.new ≡ record self.old {
+          disk = self.new.disk;
+          payloads = self.new.payloads;
+          end = self.old.end + (5 + doubted_length self.old.standing);
+          spare = self.new.spare;
+          standing = AtRest;
+        } }
+        ensures out_stays { result ≡ Ok Out
+            → self.new ≡ record self.old { disk = self.new.disk; standing = AtRest } }
         ensures rests { OnOk result (self.new.standing ≡ AtRest) }
-        ensures in_doubt { OnErr result (self.new.standing ≡ self.old.standing) }
-        ensures kept { OnErr result (IsTrue (D.tells self.old.disk) → self.new.payloads ≡ self.old.payloads) }
-        ensures count_kept { OnErr result (length self.new.payloads ≡ length self.old.payloads) }
+        ensures fault_stays { OnErr result (self.new ≡ record self.old { disk = self.new.disk }) }
         ensures only_fault { OnErr result (IsErrOf result Fault) }
-        ensures writes_nothing { IsTrue (D.tells self.old.disk) → D.seen self.new.disk ≡ D.seen self.old.disk }
-        ensures adds_no_image { IsTrue (D.tells self.old.disk) → AddsNone (D.may_leave self.old.disk) (D.may_leave self.new.disk) }
-        ensures any_moment { IsTrue (D.tells self.old.disk) → LeavesOnly (D.moment self.old.disk) (D.moment self.new.disk) (D.left_since self.old.disk) (D.left_since self.new.disk)
+        ensures writes_none { WritesNone (D.state self.old.disk) (D.state self.new.disk) }
+        ensures any_moment { EachMoment (D.state self.old.disk) (D.state self.new.disk)
             (HasList self.old.standing self.old.payloads) }
-        ensures images { IsTrue (D.tells self.old.disk) → AllHave self.new.standing self.new.payloads (D.may_leave self.new.disk) }
-        ensures limit { self.new.limit ≡ self.old.limit }
-        ensures cause { IsBlamed (D.faults self.old.disk) (D.faults self.new.disk) result }
-        ensures tells { D.tells self.new.disk ≡ D.tells self.old.disk }
-        ensures arms { D.arms self.new.disk ≡ D.arms self.old.disk }
+        ensures images { ImagesHave D.state self.new }
+        ensures run { Runs 2 2 (D.state self.old.disk) (D.state self.new.disk) result }
+        ensures cause { IsBlamed (D.state self.old.disk).faults
+            (D.state self.new.disk).faults result }
     {
         let length = length_in_doubt(&self.standing);
         let gate = read_gate(&mut self.disk, self.end)?;
@@ -261,19 +304,35 @@ impl<D: Disk> Log<D> {
 
     /// Empties the log. After `Fault` it is lost: only `restart` may be called, and the disk taken.
     pub fn restart(&mut self) -> Result<(), LogRefused>
-        ensures empty { self.new.payloads ≡ [] }
-        ensures rests { OnOk result (self.new.standing ≡ AtRest) }
-        ensures end { OnOk result (self.new.end ≡ 0) }
-        ensures lost { OnErr result (self.new.standing ≡ Lost) }
+        ensures stays { OnOk result (self.new ≡ record self.old {
+          disk = self.new.disk;
+          payloads = [];
+          end = 0;
+          spare = self.new.spare;
+          standing = AtRest;
+        }) }
+        ensures lost { OnErr result (self.new ≡ record self.old {
+          disk = self.new.disk;
+          payloads = [];
+          end = 0;
+          spare = self.new.spare;
+          standing = Lost;
+        }) }
         ensures only_fault { OnErr result (IsErrOf result Fault) }
         ensures room { self.old.spare ≤ self.new.spare }
-        ensures any_moment { IsTrue (D.tells self.old.disk) → LeavesOnly (D.moment self.old.disk) (D.moment self.new.disk) (D.left_since self.old.disk) (D.left_since self.new.disk)
-            (HasOldList (D.may_leave self.old.disk)) }
-        ensures images { OnOk result (IsTrue (D.tells self.old.disk) → AllHave AtRest [] (D.may_leave self.new.disk)) }
-        ensures limit { self.new.limit ≡ self.old.limit }
-        ensures cause { IsBlamed (D.faults self.old.disk) (D.faults self.new.disk) result }
-        ensures tells { D.tells self.new.disk ≡ D.tells self.old.disk }
-        ensures arms { D.arms self.new.disk ≡ D.arms self.old.disk }
+        ensures bytes { OnOk result (IsTrue (D.state self.old.disk).tells
+            → WithGate 0 0 (D.state self.old.disk).seen (D.state self.new.disk).seen) }
+        ensures torn { IsTrue (D.state self.old.disk).tells
+            → IsGateTorn 0 (D.state self.old.disk).seen (D.state self.new.disk).seen }
+        ensures any_moment { EachMoment (D.state self.old.disk) (D.state self.new.disk)
+            (HasOldList (D.state self.old.disk).may_leave) }
+        ensures images { ImagesHave D.state self.new }
+        ensures run { Runs 2 4 (D.state self.old.disk) (D.state self.new.disk) result }
+        ensures calls { OnOk result
+            (IsTrue (D.state self.old.disk).tells → (D.state self.new.disk).calls
+            ≡ (D.state self.old.disk).calls + (1 + closing_calls 0 (D.state self.old.disk).seen)) }
+        ensures cause { IsBlamed (D.state self.old.disk).faults
+            (D.state self.new.disk).faults result }
     {
         self.standing = Standing::Lost;
         self.spans.clear();
@@ -287,18 +346,10 @@ impl<D: Disk> Log<D> {
     /// has the one disk 0.
     pub fn arm(&mut self, disk: usize, call: u32) -> Result<(), AllocError>
         requires { disk < 1 }
-        ensures limit { self.new.limit ≡ self.old.limit }
-        ensures payloads { IsTrue (D.tells self.old.disk) → self.new.payloads ≡ self.old.payloads }
-        ensures count { length self.new.payloads ≡ length self.old.payloads }
-        ensures end { self.new.end ≡ self.old.end }
-        ensures spare { self.new.spare ≡ self.old.spare }
-        ensures standing { self.new.standing ≡ self.old.standing }
-        ensures seen { IsTrue (D.tells self.old.disk) → D.seen self.new.disk ≡ D.seen self.old.disk }
-        ensures images { IsTrue (D.tells self.old.disk) → SameImages (D.may_leave self.old.disk) (D.may_leave self.new.disk) }
-        ensures time { IsTrue (D.tells self.old.disk) → SameMoments (D.moment self.old.disk) (D.moment self.new.disk) (D.left_since self.old.disk) (D.left_since self.new.disk) }
-        ensures faults { D.faults self.new.disk ≡ D.faults self.old.disk }
-        ensures tells { D.tells self.new.disk ≡ D.tells self.old.disk }
-        ensures arms { D.arms self.old.disk ≤ D.arms self.new.disk }
+        ensures armed { OnOk result (D.arms_at call self.old.disk self.new.disk) }
+        ensures refused { OnErr result (self.new ≡ self.old) }
+        ensures stays { self.new ≡ record self.old { disk = self.new.disk } }
+        ensures nothing_else { IsArmed (D.state self.old.disk) (D.state self.new.disk) }
     {
         let _ = disk;
         self.disk.arm(call)

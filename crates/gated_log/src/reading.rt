@@ -2,13 +2,14 @@
 ghost use Rattle.std.specs.Prelude.{◌≡◌, ◌∷◌, ◌++◌, [], ◌<◌, ◌≤◌, ◌+◌, ◌^◌, ◌||◌, ◌==◌, nat_lt, slice_index_or, if◌then◌else◌, IsTrue, length, take, drop, OnOk, OnErr, All, IfOk, IfSome, IsErrOf, Some, None};
 ghost use Rattle.std.specs.Int.{w32, from_be_bytes};
 ghost use Rattle.outside.specs.Cause.{HasCause};
-ghost use Rattle.outside.specs.DiskModel.{Elapses, LeavesOnly, Only, SameImages};
+ghost use Rattle.outside.specs.DiskModel.{Elapses, Only, Runs, WritesNone};
+ghost use Rattle.gated_log.specs.Calls.{EachMoment};
 ghost use Rattle.gated_log.specs.declared.refused.LogRefused.TheVariants.{Full};
 ghost use Rattle.gated_log.specs.Blame.{IsBlamed};
 ghost use Rattle.gated_log.specs.declared.span.Span.{Span};
 ghost use Rattle.gated_log.specs.PlainLog.{payload_at};
 ghost use Rattle.gated_log.specs.Records.{front_record};
-ghost use Rattle.gated_log.specs.Reading.{IsFound, IsRecordAt};
+ghost use Rattle.gated_log.specs.Reading.{IsFound, IsRecordAt, length_told};
 
 use crate::LogRefused;
 use crate::span::Span;
@@ -24,8 +25,7 @@ pub(crate) struct Found {
 
 // The length behind a gate in front of so many bytes, none where the gate is closed.
 fn length_of(header: [u8; 5], there: u64) -> Option<u32>
-    ensures exact { result ≡ (if (slice_index_or header 0 0 == 0) || (from_be_bytes w32 (drop 1 header) == 0) || nat_lt there (6 + from_be_bytes w32 (drop 1 header))
-        then None else Some (from_be_bytes w32 (drop 1 header))) }
+    ensures exact { result ≡ length_told header there }
 {
     let length = u32::from_be_bytes([header[1], header[2], header[3], header[4]]);
     if header[0] == 0 || length == 0 || there < 6 + length as u64 {
@@ -36,18 +36,19 @@ fn length_of(header: [u8; 5], there: u64) -> Option<u32>
 
 // The length of the record at this place, none where its gate is closed.
 pub(crate) fn record_at<D: Disk>(disk: &mut D, place: u64) -> Result<Option<u32>, Failed>
-    requires within { place ≤ D.size_of disk.old }
-    ensures record { IfOk result (λ found. IsTrue (D.tells disk.old) → IsRecordAt place (D.seen disk.old) found) }
-    ensures inside { IfOk result (λ found. IfSome found (λ length. place + (5 + length) < D.size_of disk.old)) }
+    requires within { place ≤ (D.state disk.old).size }
+    ensures record { IfOk result (λ found. IsTrue (D.state disk.old).tells
+        → IsRecordAt place (D.state disk.old).seen found) }
+    ensures inside { IfOk result
+        (λ found. IfSome found (λ length. place + (5 + length) < (D.state disk.old).size)) }
     ensures fits { IfOk result (λ found. IfSome found (λ length. place + (5 + length) < 2 ^ 64)) }
     ensures some { IfOk result (λ found. IfSome found (λ length. 0 < length)) }
-    ensures tells { D.tells disk.new ≡ D.tells disk.old }
-    ensures size { D.size_of disk.new ≡ D.size_of disk.old }
-    ensures seen { IsTrue (D.tells disk.old) → D.seen disk.new ≡ D.seen disk.old }
-    ensures images { IsTrue (D.tells disk.old) → SameImages (D.may_leave disk.old) (D.may_leave disk.new) }
-    ensures time { IsTrue (D.tells disk.old) → Elapses (D.moment disk.old) (D.moment disk.new) (D.left_since disk.old) (D.left_since disk.new) (D.may_leave disk.new) }
-    ensures cause { HasCause (D.faults disk.old) (D.faults disk.new) result }
-    ensures arms { D.arms disk.new ≡ D.arms disk.old }
+    ensures writes_none { WritesNone (D.state disk.old) (D.state disk.new) }
+    ensures time { Elapses (D.state disk.old) (D.state disk.new) }
+    ensures run { Runs 0 1 (D.state disk.old) (D.state disk.new) result }
+    ensures once { IfOk result
+        (λ found. IfSome found (λ _. (D.state disk.new).calls ≡ (D.state disk.old).calls + 1)) }
+    ensures cause { HasCause (D.state disk.old).faults (D.state disk.new).faults result }
 {
     let there = disk.size() - place;
     if there < 5 {
@@ -60,22 +61,31 @@ pub(crate) fn record_at<D: Disk>(disk: &mut D, place: u64) -> Result<Option<u32>
 
 // Finds the records of a disk.
 pub(crate) fn find<D: Disk>(alloc: Global, disk: &mut D) -> Result<Found, LogRefused>
-    requires alone { IsTrue (D.tells disk.old) → Only (D.seen disk.old) (D.may_leave disk.old) }
-    ensures found { IfOk result (λ found. IsTrue (D.tells disk.old) → IsFound found.spans.items found.end (D.seen disk.old)) }
-    ensures closed { IfOk result (λ found. IsTrue (D.tells disk.old) → front_record (drop found.end (D.seen disk.old)) ≡ None) }
-    ensures within { IfOk result (λ found. All (λ (span : Span). span.at + span.length ≤ found.end) found.spans.items) }
-    ensures inside { IfOk result (λ found. found.end ≤ D.size_of disk.old) }
+    requires alone { IsTrue (D.state disk.old).tells
+        → Only (D.state disk.old).seen (D.state disk.old).may_leave }
+    ensures found { IfOk result (λ found. IsTrue (D.state disk.old).tells
+        → IsFound found.spans.items found.end (D.state disk.old).seen) }
+    ensures closed { IfOk result (λ found. IsTrue (D.state disk.old).tells
+        → front_record (drop found.end (D.state disk.old).seen) ≡ None) }
+    ensures within { IfOk result
+        (λ found. All (λ (span : Span). span.at + span.length ≤ found.end) found.spans.items) }
+    ensures inside { IfOk result (λ found. found.end ≤ (D.state disk.old).size) }
     ensures empty { IfOk result (λ found. length found.spans.items ≡ 0 → found.end ≡ 0) }
-    ensures gate_there { IfOk result (λ found. 0 < found.end → found.end < D.size_of disk.old) }
-    ensures any_moment { IsTrue (D.tells disk.old) → LeavesOnly (D.moment disk.old) (D.moment disk.new) (D.left_since disk.old) (D.left_since disk.new)
-        (λ image. image ≡ D.seen disk.old) }
-    ensures tells { D.tells disk.new ≡ D.tells disk.old }
-    ensures size { D.size_of disk.new ≡ D.size_of disk.old }
-    ensures seen { IsTrue (D.tells disk.old) → D.seen disk.new ≡ D.seen disk.old }
-    ensures images { IsTrue (D.tells disk.old) → Only (D.seen disk.old) (D.may_leave disk.new) }
+    ensures gate_there { IfOk result
+        (λ found. 0 < found.end → found.end < (D.state disk.old).size) }
+    ensures any_moment { EachMoment (D.state disk.old) (D.state disk.new)
+        (λ image. image ≡ (D.state disk.old).seen) }
+    ensures writes_none { WritesNone (D.state disk.old) (D.state disk.new) }
+    ensures tells { (D.state disk.new).tells ≡ (D.state disk.old).tells }
+    ensures arms { (D.state disk.new).arms ≡ (D.state disk.old).arms }
+    ensures later { (D.state disk.old).calls ≤ (D.state disk.new).calls }
+    ensures least { IfOk result
+        (λ found. (D.state disk.old).calls + length found.spans.items ≤ (D.state disk.new).calls) }
+    ensures most { IfOk result
+        (λ found. (D.state disk.new).calls
+        ≤ (D.state disk.old).calls + (length found.spans.items + 1)) }
     ensures never_full { IsErrOf result Full → ⊥ }
-    ensures cause { IsBlamed (D.faults disk.old) (D.faults disk.new) result }
-    ensures arms { D.arms disk.new ≡ D.arms disk.old }
+    ensures cause { IsBlamed (D.state disk.old).faults (D.state disk.new).faults result }
 {
     let mut spans = Vec::new(alloc);
     let mut end = 0;
@@ -95,18 +105,16 @@ pub(crate) fn read_payload<D: Disk>(
     span: Span,
     out: &mut Vec<u8>,
 ) -> Result<(), LogRefused>
-    requires within { span.at + span.length ≤ D.size_of disk.old }
-    ensures bytes { OnOk result (IsTrue (D.tells disk.old) → out.new.items ≡ out.old.items ++ payload_at (D.seen disk.old) span) }
+    requires within { span.at + span.length ≤ (D.state disk.old).size }
+    ensures bytes { OnOk result (IsTrue (D.state disk.old).tells
+        → out.new.items ≡ out.old.items ++ payload_at (D.state disk.old).seen span) }
     ensures err { OnErr result (out.new.items ≡ out.old.items) }
-    ensures any_moment { IsTrue (D.tells disk.old) → LeavesOnly (D.moment disk.old) (D.moment disk.new) (D.left_since disk.old) (D.left_since disk.new)
-        (D.may_leave disk.old) }
-    ensures tells { D.tells disk.new ≡ D.tells disk.old }
-    ensures size { D.size_of disk.new ≡ D.size_of disk.old }
-    ensures seen { IsTrue (D.tells disk.old) → D.seen disk.new ≡ D.seen disk.old }
-    ensures images { IsTrue (D.tells disk.old) → SameImages (D.may_leave disk.old) (D.may_leave disk.new) }
+    ensures any_moment { EachMoment (D.state disk.old) (D.state disk.new)
+        (D.state disk.old).may_leave }
+    ensures writes_none { WritesNone (D.state disk.old) (D.state disk.new) }
+    ensures run { Runs 1 1 (D.state disk.old) (D.state disk.new) result }
     ensures never_full { IsErrOf result Full → ⊥ }
-    ensures cause { IsBlamed (D.faults disk.old) (D.faults disk.new) result }
-    ensures arms { D.arms disk.new ≡ D.arms disk.old }
+    ensures cause { IsBlamed (D.state disk.old).faults (D.state disk.new).faults result }
 {
     let start = out.len();
     out.resize(start + span.length as usize, 0)?;

@@ -14,7 +14,8 @@ pub(crate) fn part_of(span: Span, from: u32, count: u32) -> Span
     requires { span.at + span.length ≤ 2 ^ 64 - 1 }
     ensures within { result.at + result.length ≤ span.at + span.length }
     ensures short { span.length ≤ 2 ^ 32 - 1 }
-    ensures part { (bytes : List ℕ) → payload_at bytes result ≡ take count (drop from (payload_at bytes span)) }
+    ensures part { (bytes : List ℕ)
+        → payload_at bytes result ≡ take count (drop from (payload_at bytes span)) }
 {
     let start = from.min(span.length);
     Span {
@@ -27,7 +28,8 @@ pub(crate) fn part_of(span: Span, from: u32, count: u32) -> Span
 pub(crate) fn add_span(spans: &mut Vec<Span>, end: &mut u64, length: u32)
     requires room { vec_len spans.old < vec_capacity spans.old }
     requires fits { end.old + (6 + length) ≤ 2 ^ 64 - 1 }
-    ensures spans { spans.new.items ≡ spans.old.items ++ record { at = end.old + 5; length = length } ∷ [] }
+    ensures spans { spans.new.items
+        ≡ spans.old.items ++ record { at = end.old + 5; length = length } ∷ [] }
     ensures len { vec_len spans.new ≡ vec_len spans.old + 1 }
     ensures capacity { vec_capacity spans.new ≡ vec_capacity spans.old }
     ensures end { end.new ≡ end.old + (5 + length) }

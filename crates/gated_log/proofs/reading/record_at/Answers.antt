@@ -5,13 +5,13 @@ use Rattle.gated_log.proofs.reading.record_at.Goals as goal
 
 pub returns-then-there-lt5-clause-record : goal.returns-then-there-lt5-clause-record
 returns-then-there-lt5-clause-record g c = λ told.
-    let seen = g.D.Disk.seen c.args.disk.now in
+    let seen = (g.D.Disk.state c.args.disk.now).seen in
     too_short (drop c.args.place seen)
     (omega (arith, length-drop c.args.place seen, g.met.D.Disk.sized c.args.disk.now told, c.size.ensures, c.if-there-lt5.true))
 
 pub returns-clause-record : goal.returns-clause-record
 returns-clause-record g c = λ told.
-    let seen = g.D.Disk.seen c.args.disk.now in
+    let seen = (g.D.Disk.state c.args.disk.now).seen in
     at_place c.args.place seen c.length_of.result
     (header_says (drop c.args.place seen) c.read.new.into _ c.length_of.result
     (omega (arith, length-drop c.args.place seen, g.met.D.Disk.sized c.args.disk.now told, c.size.ensures))

@@ -15,5 +15,5 @@ returns-clause-stands g c = on_ok_then c.write_gated.result
     c.write_gated.ensures.written
 
 pub returns-clause-any_moment : goal.returns-clause-any_moment
-returns-clause-any_moment g c = λ told. leaves_only_weaker _ _ _ _ _ _ (c.write_gated.ensures.any_moment told)
+returns-clause-any_moment g c = λ told. leaves_only_weaker _ _ _ _ (c.write_gated.ensures.any_moment told)
     (λ image inside. in_commit _ c.args.draft.now c.args.place image c.write_gated.ensures.some (omega (arith, c.write_gated.ensures.short)) inside)

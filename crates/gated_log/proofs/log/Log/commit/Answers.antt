@@ -1,4 +1,4 @@
-use Rattle.std.proofs.Common.{◌≡◌, ◌+◌, ◌-◌, ◌≤◌, ◌<◌, ◌^◌, IsTrue, arith, ap, length, sym, ◌∙◌, subst}
+use Rattle.std.proofs.Common.{◌≡◌, ◌+◌, ◌-◌, ◌≤◌, ◌<◌, ◌^◌, arith, ap, length, sym, ◌∙◌, subst}
 use Rattle.std.specs.Prelude.{is_err, vec_len, vec_capacity, false, true}
 use Rattle.gated_log.specs.PlainLog.{AtRest, InDoubt, IsLog, PlainLog}
 use Rattle.gated_log.specs.LogView.{standing_of}
@@ -13,7 +13,7 @@ invariant_of-self g c =
     subst (λ n. 0 < n) (sym (ap (λ (v : PlainLog g.row.D.Denot). v.spare) c.self.view_is)) c.requires.room in
     let failed : is_err c.write_record.result ≡ true = sym c.is_err.ensures.value ∙ c.if-is_err.true in
     let fits : c.self.inside.end + (6 + c.len.result) ≤ 2 ^ 64 - 1 = omega (arith, c.passes.ensures.under c.if-passes.false, c.self.ranges) in (
-      subst (λ p. IsLog (g.D.Disk.tells c.write_record.new.disk) (g.D.Disk.size_of c.write_record.new.disk) (g.D.Disk.seen c.write_record.new.disk) (g.D.Disk.may_leave c.write_record.new.disk)
+      subst (λ p. IsLog (g.D.Disk.state c.write_record.new.disk).tells (g.D.Disk.state c.write_record.new.disk).size (g.D.Disk.state c.write_record.new.disk).seen (g.D.Disk.state c.write_record.new.disk).may_leave
           c.self.inside.spans.items (vec_capacity c.self.inside.spans - vec_len c.self.inside.spans) c.self.inside.end (InDoubt p)) (sym c.of.ensures)
           (commit_log_doubted _ _ _ _ _ _ _ _ _ _ _ _ c.args.draft.now c.self.invariant.0 rests (when_err c.write_record.result failed c.write_record.ensures.doubt)
           (record {
@@ -22,7 +22,7 @@ invariant_of-self g c =
             short = omega (arith, c.len.ensures.length, c.len.ensures.short);
             fits = omega (arith, fits, c.len.ensures.length);
           })
-          c.write_record.ensures.no_shorter c.write_record.ensures.tells),
+          c.write_record.ensures.no_shorter c.write_record.ensures.run.tells),
       c.len-then-is_err.ensures.length ∙ ap length (sym c.of.ensures),
     )
 
@@ -32,7 +32,7 @@ invariant_of-self-2 g c =
     let done : is_err c.write_record.result ≡ false = sym c.is_err.ensures.value ∙ c.if-is_err.false in (
       rw (c.add_span.ensures.spans, c.add_span.ensures.end, c.len-2.ensures.length, rests)
           (commit_log _ _ _ _ _ _ _ _ _ _ _ _ _ c.args.draft.now c.self.invariant.0 rests (when_ok c.write_record.result done c.write_record.ensures.list)
-          (when_ok c.write_record.result done c.write_record.ensures.stands) (when_ok c.write_record.result done c.write_record.ensures.size) c.write_record.ensures.tells),
+          (when_ok c.write_record.result done c.write_record.ensures.stands) (when_ok c.write_record.result done c.write_record.ensures.size) c.write_record.ensures.run.tells),
       c.self.invariant.1,
     )
 
@@ -45,9 +45,7 @@ returns-then-is_err-clause-kept g c =
     (when_err c.write_record.result failed c.write_record.ensures.doubt told)).list)
 
 pub returns-then-is_err-clause-images : goal.returns-then-is_err-clause-images
-returns-then-is_err-clause-images g c = λ told.
-    let inside = subst (λ (v : PlainLog g.row.D.Denot). IsTrue (g.D.Disk.tells v.disk)) (sym c.self.view_is) told in
-    log_has _ _ _ _ _ _ _ _ (invariant_of-self g c).0 (subst IsTrue (sym c.write_record.ensures.tells) inside)
+returns-then-is_err-clause-images g c = λ told. log_has _ _ _ _ _ _ _ _ (invariant_of-self g c).0 told
 
 pub returns-clause-list : goal.returns-clause-list
 returns-clause-list g c =
@@ -58,6 +56,4 @@ returns-clause-list g c =
     (when_ok c.write_record.result done c.write_record.ensures.list told) (when_ok c.write_record.result done c.write_record.ensures.stands told)).list)
 
 pub returns-clause-images : goal.returns-clause-images
-returns-clause-images g c = λ told.
-    let inside = subst (λ (v : PlainLog g.row.D.Denot). IsTrue (g.D.Disk.tells v.disk)) (sym c.self.view_is) told in
-    log_has _ _ _ _ _ _ _ _ (invariant_of-self-2 g c).0 (subst IsTrue (sym c.write_record.ensures.tells) inside)
+returns-clause-images g c = λ told. log_has _ _ _ _ _ _ _ _ (invariant_of-self-2 g c).0 told
