@@ -1,4 +1,5 @@
 pub mod PairLemmas
-pub mod SettleLemmas
 pub mod TurnLemmas
 pub mod RewriteLemmas
+pub mod SettleLemmas
+pub mod MountLemmas

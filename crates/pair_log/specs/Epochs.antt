@@ -25,12 +25,12 @@ second_counts [] (snapshot ∷ records) = true
 second_counts (old ∷ first) (new ∷ second) = is_later (epoch_of old) (epoch_of new)
 
 -- the records of the disk that counts
-abbrev pub counting : List (List ℕ) → List (List ℕ) → List (List ℕ)
-counting first second = if second_counts first second then second else first
+abbrev pub active_records : List (List ℕ) → List (List ℕ) → List (List ℕ)
+active_records first second = if second_counts first second then second else first
 
 -- what a mount reads from two images
 abbrev pub read_pair : List ℕ → List ℕ → List (List ℕ)
-read_pair first second = counting (records first) (records second)
+read_pair first second = active_records (records first) (records second)
 
 -- examples: the next epoch, also behind the last one; a greater one; equal ones; and a record that is too short
 next_counts : second_counts (to_be_bytes w64 1 ∷ []) (to_be_bytes w64 2 ∷ []) ≡ true
@@ -51,5 +51,5 @@ equal_epochs = refl
 short_record : epoch_of (1 ∷ 2 ∷ 3 ∷ []) ≡ 0
 short_record = refl
 
-only_second : counting [] ((to_be_bytes w64 1 ++ 88 ∷ []) ∷ []) ≡ (to_be_bytes w64 1 ++ 88 ∷ []) ∷ []
+only_second : active_records [] ((to_be_bytes w64 1 ++ 88 ∷ []) ∷ []) ≡ (to_be_bytes w64 1 ++ 88 ∷ []) ∷ []
 only_second = refl

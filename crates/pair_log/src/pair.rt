@@ -1,108 +1,153 @@
-// Two logs of which one counts.
-ghost use Rattle.std.specs.Prelude.{◌≡◌, ◌↔◌, ◌⊎◌, ◌+◌, ◌-◌, ◌<◌, ◌≤◌, ◌==◌, [], ◌∷◌, ◌++◌, not, length, take, drop, slice_index_or, true, false, OnOk, OnErr, IfOk, IfErr, IsErrOf, IsTrue, None, Ok, vec_len, vec_capacity};
+// Two logs of which one is active.
+ghost use Rattle.std.specs.Prelude.{◌≡◌, ◌↔◌, ◌⊎◌, ◌+◌, ◌<◌, ◌≤◌, [], ◌∷◌, ◌++◌, length, take, drop, slice_index_or, true, false, OnOk, OnErr, IfOk, IfErr, IsErrOf, IsTrue, None, Ok, vec_len, vec_capacity};
+ghost use Rattle.std.specs.Int.{w64, to_be_bytes};
+ghost use Rattle.outside.specs.DiskModel.{IsArmed, LeavesOnly, Runs, Torn, WritesNone};
 ghost use Rattle.gated_log.specs.declared.refused.LogRefused.TheVariants.{Fault, Full, Memory};
 ghost use Rattle.gated_log.specs.declared.settled.Settled.TheVariants.{In, Out};
-ghost use Rattle.std.specs.Int.{w64, to_be_bytes};
-ghost use Rattle.outside.specs.Cause.{Rose};
-ghost use Rattle.outside.specs.DiskModel.{AddsNone, LeavesOnly};
-ghost use Rattle.gated_log.specs.PlainLog.{AllHave, AtRest, InDoubt, doubted_length, end_of};
 ghost use Rattle.gated_log.specs.Blame.{IsBlamed};
-ghost use Rattle.gated_log.specs.Stands.{IsBeforeOrAfter};
-ghost use Rattle.pair_log.specs.declared.doubt.Doubt.TheVariants.{Commit, Nothing, Restart, Rewrite};
-ghost use Rattle.pair_log.specs.Epochs.{counting, next_epoch, read_pair, snapshot_of};
+ghost use Rattle.gated_log.specs.Calls.{ImagesHave, IsMounting, with_record};
+ghost use Rattle.gated_log.specs.Closing.{IsGateTorn, WithGate, closing_calls};
+ghost use Rattle.gated_log.specs.PlainLog.{AllHave, AtRest, InDoubt, Lost, doubted_length, end_of};
 ghost use Rattle.gated_log.specs.Records.{records};
-ghost use Rattle.pair_log.specs.Mounted.{IsBeginning, IsMounting, epoch_in, or_first};
-ghost use Rattle.pair_log.specs.PlainPair.{AllOlder, IsEither, IsNewOrOlder, head_of, PairLeaves, PairReads, Told, after_doubt, doubted_log, first_disk, first_limit, first_of, second_disk, second_limit, second_of, tail_of};
+ghost use Rattle.pair_log.specs.declared.doubt.Doubt.TheVariants.{Commit, Nothing, Restart, Rewrite};
+ghost use Rattle.pair_log.specs.declared.side.Side.TheVariants.{First, Second};
+ghost use Rattle.pair_log.specs.Epochs.{active_records, next_epoch, read_pair, snapshot_of};
+ghost use Rattle.pair_log.specs.Mounted.{HasNone, IsBlamedOn, IsMountTorn, IsTooLong, MountKeeps, epoch_in, mounted_first, or_first, side_of};
+ghost use Rattle.pair_log.specs.PlainPair.{AllOlder, EachMoment, HasEither, IsEither, IsNewOrOlder, Told, after_doubt, both_disks, doubted_log, first_disk, first_limit, head_of, second_disk, second_limit, tail_of};
+ghost use Rattle.pair_log.specs.Settling.{IsSettledIn, IsSettledOut, IsUnsettled, disk_on, doubted_side};
+ghost use Rattle.pair_log.specs.Sides.{first_of, number_of, other_side, second_of};
 
-use crate::Doubt;
-use crate::mounting::{epochs, second_is_later};
+use crate::mounting::{Epochs, find_epochs, second_is_later};
+use crate::{Doubt, Side};
 use gated_log::{Draft, Log, LogRefused, Settled};
+use history::History;
 use outside::Disk;
 use std::alloc::{AllocError, Global};
 use std::marker::Model;
 use std::mem::swap;
 
-/// A snapshot and the records after it, on the one of two disks that counts; a rewrite makes the other one count.
+/// A snapshot and the records after it, on the active one of two disks; a rewrite makes the standby active.
 #[derive(Drop)]
 pub struct PairLog<D: Disk> {
-    counting: Log<D>,
-    other: Log<D>,
-    swapped: bool,
+    active: Log<D>,
+    standby: Log<D>,
+    side: Side,
     epoch: u64,
     doubt: Doubt,
+    /// What both disks were before each call that moved one of them.
+    past: History<(D, D)>,
 }
 
 impl<D: Disk> Model for PairLog<D> {
+    ghost use Rattle.std.specs.Prelude.{[]};
     ghost use Rattle.pair_log.specs.PlainPair.{IsPair, PlainPair};
 
     ghost Value = { PlainPair D };
 
-    ghost view = { λ p. record { counting = p.counting; other = p.other; swapped = p.swapped; epoch = p.epoch; doubt = p.doubt } };
+    ghost view = { λ p. record {
+      active = p.active;
+      standby = p.standby;
+      side = p.side;
+      epoch = p.epoch;
+      doubt = p.doubt;
+      past = p.past.items;
+    } };
 
-    ghost invariant = { λ p. IsPair D.tells D.may_leave (record { counting = p.counting; other = p.other; swapped = p.swapped; epoch = p.epoch; doubt = p.doubt }) };
+    ghost invariant = { λ p. IsPair D.state (record {
+      active = p.active;
+      standby = p.standby;
+      side = p.side;
+      epoch = p.epoch;
+      doubt = p.doubt;
+      past = [];
+    }) };
 }
 
-// Makes the other log the one that counts.
-fn turn<D: Disk>(counting: &mut Log<D>, other: &mut Log<D>, swapped: &mut bool, epoch: &mut u64)
-    ensures counting { counting.new ≡ other.old }
-    ensures other { other.new ≡ counting.old }
-    ensures swapped { swapped.new ≡ not swapped.old }
+// Makes the standby the active log.
+fn swap_logs<D: Disk>(active: &mut Log<D>, standby: &mut Log<D>, side: &mut Side, epoch: &mut u64)
+    ensures active { active.new ≡ standby.old }
+    ensures standby { standby.new ≡ active.old }
+    ensures side { side.new ≡ other_side side.old }
     ensures epoch { epoch.new ≡ next_epoch epoch.old }
 {
-    swap(counting, other);
-    *swapped = !*swapped;
+    swap(active, standby);
+    *side = side.other();
     *epoch = epoch.wrapping_add(1);
+}
+
+// The history with what both disks are now.
+fn recorded<D: Disk>(
+    past: &History<(D, D)>,
+    side: Side,
+    active: &Log<D>,
+    standby: &Log<D>,
+) -> History<(D, D)>
+    ensures { result.items ≡ past.now.items
+        ++ (
+          first_of side active.now.disk standby.now.disk,
+          second_of side active.now.disk standby.now.disk,
+        ) ∷ [] }
+{
+    match side {
+        Side::First => past.and_both(active.disk(), standby.disk()),
+        Side::Second => past.and_both(standby.disk(), active.disk()),
+    }
 }
 
 impl<D: Disk> PairLog<D> {
     // The pair of two logs at rest, of which one has a record.
-    fn of_logs(
-        first: Log<D>,
-        second: Log<D>,
-        first_epoch: Option<u64>,
-        second_epoch: Option<u64>,
-    ) -> PairLog<D>
+    fn of_logs(first: Log<D>, second: Log<D>, epochs: Epochs, past: History<(D, D)>) -> PairLog<D>
         requires first_rests { first.standing ≡ AtRest }
         requires second_rests { second.standing ≡ AtRest }
         requires count { 0 < length first.payloads + length second.payloads }
-        requires first_has { IsTrue (D.tells first.disk) → AllHave AtRest first.payloads (D.may_leave first.disk) }
-        requires second_has { IsTrue (D.tells second.disk) → AllHave AtRest second.payloads (D.may_leave second.disk) }
-        requires first_epoch { IsTrue (D.tells first.disk) → first_epoch ≡ epoch_in first.payloads }
-        requires second_epoch { IsTrue (D.tells second.disk) → second_epoch ≡ epoch_in second.payloads }
-        requires first_some { 0 < length first.payloads → first_epoch ≡ None → ⊥ }
-        requires first_none { length first.payloads ≡ 0 → first_epoch ≡ None }
-        requires second_none { length second.payloads ≡ 0 → second_epoch ≡ None }
-        requires second_some { 0 < length second.payloads → second_epoch ≡ None → ⊥ }
+        requires first_has { ImagesHave D.state first }
+        requires second_has { ImagesHave D.state second }
+        requires first_epoch { IsTrue (D.state first.disk).tells
+            → epochs.first ≡ epoch_in first.payloads }
+        requires second_epoch { IsTrue (D.state second.disk).tells
+            → epochs.second ≡ epoch_in second.payloads }
+        requires first_some { 0 < length first.payloads → epochs.first ≡ None → ⊥ }
+        requires first_none { length first.payloads ≡ 0 → epochs.first ≡ None }
+        requires second_none { length second.payloads ≡ 0 → epochs.second ≡ None }
+        requires second_some { 0 < length second.payloads → epochs.second ≡ None → ⊥ }
         ensures first { first_disk result ≡ first.disk }
         ensures second { second_disk result ≡ second.disk }
-        ensures list { IsTrue (D.tells first.disk) → IsTrue (D.tells second.disk) → result.counting.payloads ≡ counting first.payloads second.payloads }
+        ensures list { IsTrue (D.state first.disk).tells → IsTrue (D.state second.disk).tells
+            → result.active.payloads ≡ active_records first.payloads second.payloads }
+        ensures side { IsTrue (D.state first.disk).tells → IsTrue (D.state second.disk).tells
+            → result.side ≡ side_of first.payloads second.payloads }
         ensures first_limit { first_limit result ≡ first.limit }
         ensures second_limit { second_limit result ≡ second.limit }
-        ensures end { (first.end ≡ end_of first.payloads) → (second.end ≡ end_of second.payloads) → result.counting.end ≡ end_of result.counting.payloads }
-        ensures images { Told D.tells result → PairReads D.may_leave result (IsEither result.counting.payloads result.counting.payloads) }
+        ensures end { (first.end ≡ end_of first.payloads) → (second.end ≡ end_of second.payloads)
+            → result.active.end ≡ end_of result.active.payloads }
+        ensures images { HasEither D.state result }
         ensures rests { result.doubt ≡ Nothing }
+        ensures past { result.past ≡ past.items }
     {
-        if second_is_later(first_epoch, second_epoch) {
+        if second_is_later(epochs.first, epochs.second) {
             return PairLog {
-                counting: second,
-                other: first,
-                swapped: true,
-                epoch: second_epoch.unwrap_or(0),
+                active: second,
+                standby: first,
+                side: Side::Second,
+                epoch: epochs.second.unwrap_or(0),
                 doubt: Doubt::Nothing,
+                past,
             };
         }
         PairLog {
-            counting: first,
-            other: second,
-            swapped: false,
-            epoch: first_epoch.unwrap_or(0),
+            active: first,
+            standby: second,
+            side: Side::First,
+            epoch: epochs.first.unwrap_or(0),
             doubt: Doubt::Nothing,
+            past,
         }
     }
 
     /// The pair of logs on these two disks, whose records may pass no limit, in bytes. Where neither has a record, this
-    /// snapshot is written with epoch 1 to the first one; it has at most 1,342,177,272 bytes. On refusal the disks come
-    /// back in their order, with the number, 0 or 1, of the one that failed.
+    /// snapshot is written with epoch 1 to the first one; `Full` is answered exactly where it would then pass the limit,
+    /// or has more than 1,342,177,272 bytes. On refusal the disks come back in their order, with the number, 0 or 1, of
+    /// the one that refused.
     pub fn mount(
         alloc: Global,
         first: D,
@@ -110,75 +155,112 @@ impl<D: Disk> PairLog<D> {
         limit: u64,
         snapshot: &[u8],
     ) -> Result<PairLog<D>, (D, D, u8, LogRefused)>
-        requires limit { 1 ≤ limit }
-        requires short { length snapshot.now ≤ 1342177272 }
-        ensures list { IfOk result (λ pair. IsTrue (D.tells first) → IsTrue (D.tells second) → pair.counting.payloads ≡ or_first snapshot.now (read_pair (D.seen first) (D.seen second))) }
+        requires { 1 ≤ limit }
+        ensures list { IfOk result
+            (λ pair. IsTrue (D.state first).tells → IsTrue (D.state second).tells
+            → pair.active.payloads
+            ≡ or_first snapshot.now (read_pair (D.state first).seen (D.state second).seen)) }
+        ensures side { IfOk result
+            (λ pair. IsTrue (D.state first).tells → IsTrue (D.state second).tells
+            → pair.side ≡ side_of (records (D.state first).seen) (records (D.state second).seen)) }
         ensures rests { IfOk result (λ pair. pair.doubt ≡ Nothing) }
-        ensures first_moment { IfOk result (λ pair. IsTrue (D.tells first) → LeavesOnly (D.moment first) (D.moment (first_disk pair)) (D.left_since first) (D.left_since (first_disk pair))
-            (IsBeginning (D.may_leave first) (records (D.seen first)) snapshot.now)) }
-        ensures second_moment { IfOk result (λ pair. IsTrue (D.tells second) → LeavesOnly (D.moment second) (D.moment (second_disk pair)) (D.left_since second) (D.left_since (second_disk pair))
-            (IsMounting (D.may_leave second) (records (D.seen second)))) }
-        ensures first_moment_refused { IfErr result (λ refused. IsTrue (D.tells first) → LeavesOnly (D.moment first) (D.moment refused.0) (D.left_since first) (D.left_since refused.0)
-            (IsBeginning (D.may_leave first) (records (D.seen first)) snapshot.now)) }
-        ensures second_moment_refused { IfErr result (λ refused. IsTrue (D.tells second) → LeavesOnly (D.moment second) (D.moment refused.1) (D.left_since second) (D.left_since refused.1)
-            (IsMounting (D.may_leave second) (records (D.seen second)))) }
-        ensures images { IfOk result (λ pair. Told D.tells pair → PairReads D.may_leave pair (IsEither pair.counting.payloads pair.counting.payloads)) }
-        ensures end { IfOk result (λ pair. IsTrue (D.tells first) → IsTrue (D.tells second) → pair.counting.end ≡ end_of pair.counting.payloads) }
+        ensures any_moment { IfOk result
+            (λ pair. MountKeeps D.state first second snapshot.now pair) }
+        ensures images { IfOk result (λ pair. HasEither D.state pair) }
+        ensures first_bytes { IfOk result
+            (λ pair. IsTrue (D.state first).tells → IsTrue (D.state second).tells
+            → (D.state (first_disk pair)).seen ≡ mounted_first snapshot.now
+            (records (D.state first).seen) (records (D.state second).seen)
+            (D.state first).seen) }
+        ensures second_bytes { IfOk result (λ pair. IsTrue (D.state second).tells
+            → WithGate (end_of (records (D.state second).seen)) 0
+            (D.state second).seen (D.state (second_disk pair)).seen) }
+        ensures end { IfOk result
+            (λ pair. IsTrue (D.state first).tells → IsTrue (D.state second).tells
+            → pair.active.end ≡ end_of pair.active.payloads) }
         ensures first_limit { IfOk result (λ pair. first_limit pair ≡ limit) }
         ensures second_limit { IfOk result (λ pair. second_limit pair ≡ limit) }
-        ensures full { IfErr result (λ refused. refused.3 ≡ Full → limit < 14 + length snapshot.now) }
-        ensures fault { IfErr result (λ refused. refused.3 ≡ Fault → ((refused.2 ≡ 0) × Rose (D.faults first) (D.faults refused.0)) ⊎ ((refused.2 ≡ 1) × Rose (D.faults second) (D.faults refused.1))) }
-        ensures first_told { IfOk result (λ pair. D.tells (first_disk pair) ≡ D.tells first) }
-        ensures second_told { IfOk result (λ pair. D.tells (second_disk pair) ≡ D.tells second) }
-        ensures first_told_refused { IfErr result (λ refused. D.tells refused.0 ≡ D.tells first) }
-        ensures second_told_refused { IfErr result (λ refused. D.tells refused.1 ≡ D.tells second) }
-        ensures first_later { IfOk result (λ pair. D.faults first ≤ D.faults (first_disk pair)) }
-        ensures second_later { IfOk result (λ pair. D.faults second ≤ D.faults (second_disk pair)) }
-        ensures first_later_refused { IfErr result (λ refused. D.faults first ≤ D.faults refused.0) }
-        ensures second_later_refused { IfErr result (λ refused. D.faults second ≤ D.faults refused.1) }
-        ensures first_arms { IfOk result (λ pair. D.arms (first_disk pair) ≡ D.arms first) }
-        ensures second_arms { IfOk result (λ pair. D.arms (second_disk pair) ≡ D.arms second) }
-        ensures first_arms_refused { IfErr result (λ refused. D.arms refused.0 ≡ D.arms first) }
-        ensures second_arms_refused { IfErr result (λ refused. D.arms refused.1 ≡ D.arms second) }
+        ensures fits { IfOk result
+            (λ pair. IsTrue (D.state first).tells → IsTrue (D.state second).tells
+            → HasNone (records (D.state first).seen) (records (D.state second).seen)
+            → IsTooLong limit snapshot.now → ⊥) }
+        ensures first_tells { IfOk result
+            (λ pair. (D.state (first_disk pair)).tells ≡ (D.state first).tells) }
+        ensures second_tells { IfOk result
+            (λ pair. (D.state (second_disk pair)).tells ≡ (D.state second).tells) }
+        ensures first_arms { IfOk result
+            (λ pair. (D.state (first_disk pair)).arms ≡ (D.state first).arms) }
+        ensures second_arms { IfOk result
+            (λ pair. (D.state (second_disk pair)).arms ≡ (D.state second).arms) }
+        ensures first_faults { IfOk result
+            (λ pair. (D.state (first_disk pair)).faults ≡ (D.state first).faults) }
+        ensures second_faults { IfOk result
+            (λ pair. (D.state (second_disk pair)).faults ≡ (D.state second).faults) }
+        ensures full { IfErr result (λ refused. refused.3 ≡ Full → IsTooLong limit snapshot.now) }
+        ensures full_of_none { IfErr result (λ refused. refused.3 ≡ Full
+            → IsTrue (D.state first).tells → IsTrue (D.state second).tells
+            → HasNone (records (D.state first).seen) (records (D.state second).seen)) }
+        ensures blame { IfErr result (λ refused. (side : _) × (refused.2 ≡ number_of side)
+            × IsBlamedOn side refused.3 (D.state first).faults (D.state second).faults
+            (D.state refused.0).faults (D.state refused.1).faults) }
+        ensures first_torn { IfErr result
+            (λ refused. IsTrue (D.state first).tells → IsTrue (D.state second).tells
+            → IsMountTorn snapshot.now
+            (records (D.state first).seen) (records (D.state second).seen)
+            (D.state first).seen (D.state refused.0).seen) }
+        ensures second_torn { IfErr result (λ refused. IsTrue (D.state second).tells
+            → IsGateTorn (end_of (records (D.state second).seen))
+            (D.state second).seen (D.state refused.1).seen) }
+        ensures first_tells_refused { IfErr result
+            (λ refused. (D.state refused.0).tells ≡ (D.state first).tells) }
+        ensures second_tells_refused { IfErr result
+            (λ refused. (D.state refused.1).tells ≡ (D.state second).tells) }
+        ensures first_arms_refused { IfErr result
+            (λ refused. (D.state refused.0).arms ≡ (D.state first).arms) }
+        ensures second_arms_refused { IfErr result
+            (λ refused. (D.state refused.1).arms ≡ (D.state second).arms) }
     {
-        let mut first_log = match Log::mount(alloc, first, limit) {
+        let past = History::new().and_both(&first, &second);
+        let mut first = match Log::mount(alloc, first, limit) {
             Ok(log) => log,
-            Err((first, refused)) => return Err((first, second, 0, refused)),
+            Err((first, why)) => return Err((first, second, 0, why)),
         };
-        let mut second_log = match Log::mount(alloc, second, limit) {
+        let mut second = match Log::mount(alloc, second, limit) {
             Ok(log) => log,
-            Err((second, refused)) => return Err((first_log.into_disk(), second, 1, refused)),
+            Err((second, why)) => return Err((first.into_disk(), second, 1, why)),
         };
-        match epochs(alloc, &mut first_log, &mut second_log, snapshot) {
-            Ok((first_epoch, second_epoch)) => Ok(PairLog::of_logs(
-                first_log,
-                second_log,
-                first_epoch,
-                second_epoch,
-            )),
-            Err((number, refused)) => Err((
-                first_log.into_disk(),
-                second_log.into_disk(),
-                number,
-                refused,
+        match find_epochs(alloc, &mut first, &mut second, snapshot) {
+            Ok(epochs) => Ok(PairLog::of_logs(first, second, epochs, past)),
+            Err(refusal) => Err((
+                first.into_disk(),
+                second.into_disk(),
+                refusal.side.number(),
+                refusal.why,
             )),
         }
     }
 
-    /// The disk that counts: 0 for the first one, 1 for the second one.
+    /// The active disk: 0 for the first one, 1 for the second one.
     pub fn side(&self) -> u8
-        ensures first { result ≡ 0 → self.now.swapped ≡ false }
-        ensures second { result ≡ 1 → self.now.swapped ≡ true }
-        ensures bound { result < 2 }
+        ensures { result ≡ number_of self.now.side }
     {
-        self.swapped as u8
+        self.side.number()
     }
 
     /// How many records there are after the snapshot, without one that is in doubt.
     pub fn count(&self) -> u64
-        ensures { result ≡ length (tail_of self.now.counting.payloads) }
+        ensures { result ≡ length (tail_of self.now.active.payloads) }
     {
-        self.counting.count() - 1
+        self.active.count() - 1
+    }
+
+    /// The place of the gate behind the records of the active disk, in bytes.
+    pub fn end(&self) -> u64
+        ensures end { result ≡ self.now.active.end }
+        ensures behind_records { IsTrue (D.state self.now.active.disk).tells
+            → self.now.active.end ≡ end_of self.now.active.payloads }
+    {
+        self.active.end()
     }
 
     /// The epoch that the next snapshot has to begin with.
@@ -188,113 +270,144 @@ impl<D: Disk> PairLog<D> {
         self.epoch.wrapping_add(1)
     }
 
+    /// The disk that is active.
+    pub fn active_disk(&self) -> &D
+        ensures { result.now ≡ self.now.active.disk }
+    {
+        self.active.disk()
+    }
+
+    /// The disk that is not active.
+    pub fn standby_disk(&self) -> &D
+        ensures { result.now ≡ self.now.standby.disk }
+    {
+        self.standby.disk()
+    }
+
     /// Whether a commit or a rewrite failed and it is open whether it was done.
     pub fn doubt(&self) -> bool
         ensures none { result ≡ false → self.now.doubt ≡ Nothing }
         ensures some { result ≡ true → self.now.doubt ≡ Nothing → ⊥ }
-        ensures older { Told D.tells self.now → self.now.doubt ≡ Nothing → AllOlder self.now.swapped self.now.counting.payloads (D.may_leave self.now.other.disk) }
-        ensures images { Told D.tells self.now → PairReads D.may_leave self.now (IsEither self.now.counting.payloads (after_doubt self.now)) }
+        ensures older { Told D.state self.now → self.now.doubt ≡ Nothing
+            → AllOlder self.now.side self.now.active.payloads
+            (D.state self.now.standby.disk).may_leave }
+        ensures images { HasEither D.state self.now }
     {
         self.doubt != Doubt::Nothing
     }
 
     /// Makes room for one more record on both disks.
     pub fn reserve(&mut self) -> Result<(), AllocError>
-        ensures room { OnOk result ((0 < self.new.counting.spare) × (0 < self.new.other.spare)) }
-        ensures more { self.old.counting.spare ≤ self.new.counting.spare }
-        ensures more_other { self.old.other.spare ≤ self.new.other.spare }
-        ensures list { self.new.counting.payloads ≡ self.old.counting.payloads }
-        ensures end { self.new.counting.end ≡ self.old.counting.end }
-        ensures limit { self.new.counting.limit ≡ self.old.counting.limit }
-        ensures limit_other { self.new.other.limit ≡ self.old.other.limit }
-        ensures doubt { self.new.doubt ≡ self.old.doubt }
-        ensures epoch { self.new.epoch ≡ self.old.epoch }
-        ensures after { after_doubt self.new ≡ after_doubt self.old }
-        ensures swapped { self.new.swapped ≡ self.old.swapped }
-        ensures first { first_disk self.new ≡ first_disk self.old }
-        ensures second { second_disk self.new ≡ second_disk self.old }
+        ensures stays { self.new ≡ record self.old {
+          active = record self.old.active { spare = self.new.active.spare };
+          standby = record self.old.standby { spare = self.new.standby.spare };
+        } }
+        ensures room { OnOk result ((0 < self.new.active.spare) × (0 < self.new.standby.spare)) }
+        ensures more { self.old.active.spare ≤ self.new.active.spare }
+        ensures more_standby { self.old.standby.spare ≤ self.new.standby.spare }
     {
-        self.counting.reserve()?;
-        self.other.reserve()?;
+        self.active.reserve()?;
+        self.standby.reserve()?;
         Ok(())
     }
 
     /// Appends the snapshot to these bytes; they stay where it fails.
     pub fn snapshot(&mut self, out: &mut Vec<u8>) -> Result<(), LogRefused>
-        ensures snapshot { OnOk result (Told D.tells self.old → out.new.items ≡ out.old.items ++ snapshot_of (head_of self.old.counting.payloads)) }
+        ensures snapshot { OnOk result (Told D.state self.old → out.new.items
+            ≡ out.old.items ++ snapshot_of (head_of self.old.active.payloads)) }
         ensures err { OnErr result (out.new.items ≡ out.old.items) }
-        ensures any_moment { Told D.tells self.old → PairLeaves D.moment D.left_since self.old self.new (IsEither self.old.counting.payloads (after_doubt self.old)) }
-        ensures images { Told D.tells self.old → PairReads D.may_leave self.new (IsEither self.old.counting.payloads (after_doubt self.old)) }
-        ensures list { Told D.tells self.old → self.new.counting.payloads ≡ self.old.counting.payloads }
-        ensures doubt { self.new.doubt ≡ self.old.doubt }
-        ensures epoch { self.new.epoch ≡ self.old.epoch }
-        ensures swapped { self.new.swapped ≡ self.old.swapped }
-        ensures other { self.new.other ≡ self.old.other }
-        ensures spare { self.new.counting.spare ≡ self.old.counting.spare }
-        ensures end { self.new.counting.end ≡ self.old.counting.end }
-        ensures limit { self.new.counting.limit ≡ self.old.counting.limit }
+        ensures stays { self.new ≡ record self.old {
+          active = record self.old.active { disk = self.new.active.disk };
+          past = self.old.past ++ both_disks self.old ∷ [];
+        } }
+        ensures writes_none { WritesNone (D.state self.old.active.disk)
+            (D.state self.new.active.disk) }
+        ensures any_moment { EachMoment D.state self.old self.new
+            (IsEither self.old.active.payloads (after_doubt self.old)) }
+        ensures run { Runs 1 1 (D.state self.old.active.disk)
+            (D.state self.new.active.disk) result }
         ensures never_full { IsErrOf result Full → ⊥ }
-        ensures cause { IsBlamed (D.faults self.old.counting.disk) (D.faults self.new.counting.disk) result }
-        ensures tells { D.tells self.new.counting.disk ≡ D.tells self.old.counting.disk }
-        ensures arms { D.arms self.new.counting.disk ≡ D.arms self.old.counting.disk }
+        ensures cause { IsBlamed (D.state self.old.active.disk).faults
+            (D.state self.new.active.disk).faults result }
     {
-        self.counting.part(0, 8, u32::MAX, out)
+        self.past = recorded(&self.past, self.side, &self.active, &self.standby);
+        self.active.part(0, 8, u32::MAX, out)
     }
 
     /// Appends record k after the snapshot to these bytes; they stay where it fails.
     pub fn entry(&mut self, k: u64, out: &mut Vec<u8>) -> Result<(), LogRefused>
-        requires within { k < length (tail_of self.old.counting.payloads) }
-        ensures entry { OnOk result (Told D.tells self.old → out.new.items ≡ out.old.items ++ slice_index_or (tail_of self.old.counting.payloads) k []) }
+        requires within { k < length (tail_of self.old.active.payloads) }
+        ensures entry { OnOk result (Told D.state self.old → out.new.items
+            ≡ out.old.items ++ slice_index_or (tail_of self.old.active.payloads) k []) }
         ensures err { OnErr result (out.new.items ≡ out.old.items) }
-        ensures any_moment { Told D.tells self.old → PairLeaves D.moment D.left_since self.old self.new (IsEither self.old.counting.payloads (after_doubt self.old)) }
-        ensures images { Told D.tells self.old → PairReads D.may_leave self.new (IsEither self.old.counting.payloads (after_doubt self.old)) }
-        ensures list { Told D.tells self.old → self.new.counting.payloads ≡ self.old.counting.payloads }
-        ensures doubt { self.new.doubt ≡ self.old.doubt }
-        ensures epoch { self.new.epoch ≡ self.old.epoch }
-        ensures swapped { self.new.swapped ≡ self.old.swapped }
-        ensures other { self.new.other ≡ self.old.other }
-        ensures spare { self.new.counting.spare ≡ self.old.counting.spare }
-        ensures end { self.new.counting.end ≡ self.old.counting.end }
-        ensures limit { self.new.counting.limit ≡ self.old.counting.limit }
+        ensures stays { self.new ≡ record self.old {
+          active = record self.old.active { disk = self.new.active.disk };
+          past = self.old.past ++ both_disks self.old ∷ [];
+        } }
+        ensures writes_none { WritesNone (D.state self.old.active.disk)
+            (D.state self.new.active.disk) }
+        ensures any_moment { EachMoment D.state self.old self.new
+            (IsEither self.old.active.payloads (after_doubt self.old)) }
+        ensures run { Runs 1 1 (D.state self.old.active.disk)
+            (D.state self.new.active.disk) result }
         ensures never_full { IsErrOf result Full → ⊥ }
-        ensures cause { IsBlamed (D.faults self.old.counting.disk) (D.faults self.new.counting.disk) result }
-        ensures tells { D.tells self.new.counting.disk ≡ D.tells self.old.counting.disk }
-        ensures arms { D.arms self.new.counting.disk ≡ D.arms self.old.counting.disk }
+        ensures cause { IsBlamed (D.state self.old.active.disk).faults
+            (D.state self.new.active.disk).faults result }
     {
-        let _ = self.counting.count(); // as many fit a u64
-        self.counting.entry(k + 1, out)
+        let _ = self.active.count(); // as many fit a u64
+        self.past = recorded(&self.past, self.side, &self.active, &self.standby);
+        self.active.entry(k + 1, out)
     }
 
     /// Adds a record behind the others. `Full` is answered exactly where it would pass the limit, and nothing is changed
     /// then; after `Fault` it is open whether the record is there, until `settle` answers.
     pub fn commit(&mut self, draft: &Draft) -> Result<(), LogRefused>
         requires rests { self.old.doubt ≡ Nothing }
-        requires room { 0 < self.old.counting.spare }
-        ensures list { OnOk result (Told D.tells self.old → self.new.counting.payloads ≡ self.old.counting.payloads ++ draft.now ∷ []) }
-        ensures rests { OnOk result (self.new.doubt ≡ Nothing) }
-        ensures full { IsErrOf result Full ↔ self.old.counting.limit < self.old.counting.end + (6 + length draft.now) }
+        requires room { 0 < self.old.active.spare }
+        ensures list { OnOk result (Told D.state self.old
+            → self.new.active.payloads ≡ self.old.active.payloads ++ draft.now ∷ []) }
+        ensures stays { OnOk result (self.new ≡ record self.old {
+          active = record self.old.active {
+            disk = self.new.active.disk;
+            payloads = self.new.active.payloads;
+            end = self.old.active.end + (5 + length draft.now);
+            spare = self.new.active.spare;
+          };
+          past = self.old.past ++ both_disks self.old ∷ [];
+        }) }
+        ensures bytes { OnOk result (Told D.state self.old → (D.state self.new.active.disk).seen
+            ≡ with_record self.old.active.end draft.now (D.state self.old.active.disk).seen) }
+        ensures full { IsErrOf result Full
+            ↔ self.old.active.limit < self.old.active.end + (6 + length draft.now) }
         ensures nothing_changed { IsErrOf result Full → self.new ≡ self.old }
-        ensures in_doubt { IsErrOf result Fault → self.new.doubt ≡ Commit }
-        ensures after { IsErrOf result Fault → Told D.tells self.old → after_doubt self.new ≡ self.old.counting.payloads ++ draft.now ∷ [] }
-        ensures kept { OnErr result (Told D.tells self.old → self.new.counting.payloads ≡ self.old.counting.payloads) }
+        ensures in_doubt { IsErrOf result Fault → self.new ≡ record self.old {
+          active = record self.old.active {
+            disk = self.new.active.disk;
+            payloads = self.new.active.payloads;
+            standing = InDoubt draft.now;
+          };
+          doubt = Commit;
+          past = self.old.past ++ both_disks self.old ∷ [];
+        } }
+        ensures kept { OnErr result
+            (Told D.state self.old → self.new.active.payloads ≡ self.old.active.payloads) }
+        ensures torn { Told D.state self.old → Torn self.old.active.end (6 + length draft.now)
+            (D.state self.old.active.disk).seen (D.state self.new.active.disk).seen }
         ensures never_memory { IsErrOf result Memory → ⊥ }
-        ensures any_moment { Told D.tells self.old → PairLeaves D.moment D.left_since self.old self.new (IsEither self.old.counting.payloads (self.old.counting.payloads ++ draft.now ∷ [])) }
-        ensures counting_moment { Told D.tells self.old → LeavesOnly (D.moment self.old.counting.disk) (D.moment self.new.counting.disk) (D.left_since self.old.counting.disk) (D.left_since self.new.counting.disk)
-            (IsBeforeOrAfter self.old.counting.payloads draft.now) }
-        ensures images { Told D.tells self.old → PairReads D.may_leave self.new (IsEither self.new.counting.payloads (after_doubt self.new)) }
-        ensures epoch { self.new.epoch ≡ self.old.epoch }
-        ensures swapped { self.new.swapped ≡ self.old.swapped }
-        ensures other { self.new.other ≡ self.old.other }
-        ensures end { OnOk result (self.new.counting.end ≡ self.old.counting.end + (5 + length draft.now)) }
-        ensures limit { self.new.counting.limit ≡ self.old.counting.limit }
-        ensures cause { IsBlamed (D.faults self.old.counting.disk) (D.faults self.new.counting.disk) result }
-        ensures tells { D.tells self.new.counting.disk ≡ D.tells self.old.counting.disk }
-        ensures arms { D.arms self.new.counting.disk ≡ D.arms self.old.counting.disk }
+        ensures any_moment { EachMoment D.state self.old self.new
+            (IsEither self.old.active.payloads (self.old.active.payloads ++ draft.now ∷ [])) }
+        ensures images { HasEither D.state self.new }
+        ensures run { Runs 4 4 (D.state self.old.active.disk)
+            (D.state self.new.active.disk) result }
+        ensures cause { IsBlamed (D.state self.old.active.disk).faults
+            (D.state self.new.active.disk).faults result }
     {
-        if let Err(refused) = self.counting.commit(draft) {
-            if refused == LogRefused::Fault {
-                self.doubt = Doubt::Commit;
-            }
+        if !self.active.fits(draft) {
+            return Err(LogRefused::Full);
+        }
+        self.past = recorded(&self.past, self.side, &self.active, &self.standby);
+        if let Err(refused) = self.active.commit(draft) {
+            self.doubt = Doubt::Commit;
             return Err(refused);
         }
         Ok(())
@@ -303,28 +416,28 @@ impl<D: Disk> PairLog<D> {
     // Ends the doubt of a commit.
     fn settle_commit(&mut self) -> Result<Settled, LogRefused>
         requires { self.old.doubt ≡ Commit }
-        ensures in_after { result ≡ Ok In → Told D.tells self.old → self.new.counting.payloads ≡ after_doubt self.old }
-        ensures out_before { result ≡ Ok Out → Told D.tells self.old → self.new.counting.payloads ≡ self.old.counting.payloads }
-        ensures exact { IfOk result (λ settled. Told D.tells self.old → (settled ≡ Out) ↔ (take 1 (drop self.old.counting.end (D.seen self.old.counting.disk)) ≡ 0 ∷ [])) }
-        ensures in_end { result ≡ Ok In → self.new.counting.end ≡ self.old.counting.end + (5 + doubted_length self.old.counting.standing) }
-        ensures out_end { result ≡ Ok Out → self.new.counting.end ≡ self.old.counting.end }
-        ensures writes_nothing { Told D.tells self.old → D.seen self.new.counting.disk ≡ D.seen self.old.counting.disk }
-        ensures adds_no_image { Told D.tells self.old → AddsNone (D.may_leave self.old.counting.disk) (D.may_leave self.new.counting.disk) }
-        ensures rests { OnOk result (self.new.doubt ≡ Nothing) }
-        ensures in_doubt { OnErr result (self.new.doubt ≡ self.old.doubt) }
-        ensures after { OnErr result (Told D.tells self.old → after_doubt self.new ≡ after_doubt self.old) }
-        ensures kept { OnErr result (Told D.tells self.old → self.new.counting.payloads ≡ self.old.counting.payloads) }
+        ensures in_after { result ≡ Ok In → Told D.state self.old
+            → self.new.active.payloads ≡ after_doubt self.old }
+        ensures exact { IfOk result (λ settled. Told D.state self.old → (settled ≡ Out)
+            ↔ (take 1 (drop self.old.active.end (D.state self.old.active.disk).seen) ≡ 0 ∷ [])) }
+        ensures in_stays { result ≡ Ok In → IsSettledIn Commit self.old self.new }
+        ensures out_stays { result ≡ Ok Out → IsSettledOut Commit self.old self.new }
+        ensures fault_stays { OnErr result (IsUnsettled Commit self.old self.new) }
         ensures only_fault { OnErr result (IsErrOf result Fault) }
-        ensures any_moment { Told D.tells self.old → PairLeaves D.moment D.left_since self.old self.new (IsEither self.old.counting.payloads (after_doubt self.old)) }
-        ensures images { Told D.tells self.old → PairReads D.may_leave self.new (IsEither self.new.counting.payloads (after_doubt self.new)) }
-        ensures swapped { self.new.swapped ≡ self.old.swapped }
-        ensures limit { self.new.counting.limit ≡ self.old.counting.limit }
-        ensures other { self.new.other ≡ self.old.other }
-        ensures cause { IsBlamed (D.faults self.old.counting.disk) (D.faults self.new.counting.disk) result }
-        ensures tells { D.tells self.new.counting.disk ≡ D.tells self.old.counting.disk }
-        ensures arms { D.arms self.new.counting.disk ≡ D.arms self.old.counting.disk }
+        ensures writes_none { WritesNone (D.state self.old.active.disk)
+            (D.state self.new.active.disk) }
+        ensures standby { self.new.standby ≡ self.old.standby }
+        ensures side { self.new.side ≡ self.old.side }
+        ensures any_moment { EachMoment D.state self.old self.new
+            (IsEither self.old.active.payloads (after_doubt self.old)) }
+        ensures images { OnOk result (HasEither D.state self.new) }
+        ensures run { Runs 2 2 (D.state self.old.active.disk)
+            (D.state self.new.active.disk) result }
+        ensures cause { IsBlamed (D.state self.old.active.disk).faults
+            (D.state self.new.active.disk).faults result }
     {
-        let settled = self.counting.settle()?;
+        self.past = recorded(&self.past, self.side, &self.active, &self.standby);
+        let settled = self.active.settle()?;
         self.doubt = Doubt::Nothing;
         Ok(settled)
     }
@@ -332,34 +445,36 @@ impl<D: Disk> PairLog<D> {
     // Ends the doubt of a rewrite's commit.
     fn settle_rewrite(&mut self) -> Result<Settled, LogRefused>
         requires { self.old.doubt ≡ Rewrite }
-        ensures in_after { result ≡ Ok In → Told D.tells self.old → self.new.counting.payloads ≡ after_doubt self.old }
-        ensures out_before { result ≡ Ok Out → Told D.tells self.old → self.new.counting.payloads ≡ self.old.counting.payloads }
-        ensures exact { IfOk result (λ settled. Told D.tells self.old → (settled ≡ Out) ↔ (take 1 (drop self.old.other.end (D.seen self.old.other.disk)) ≡ 0 ∷ [])) }
-        ensures in_end { result ≡ Ok In → self.new.counting.end ≡ self.old.other.end + (5 + doubted_length self.old.other.standing) }
-        ensures out_end { result ≡ Ok Out → self.new.counting.end ≡ self.old.counting.end }
-        ensures writes_nothing { Told D.tells self.old → D.seen (second_of self.old.swapped (first_disk self.new) (second_disk self.new)) ≡ D.seen self.old.other.disk }
-        ensures adds_no_image { Told D.tells self.old → AddsNone (D.may_leave self.old.other.disk) (D.may_leave (second_of self.old.swapped (first_disk self.new) (second_disk self.new))) }
-        ensures first_limit { first_limit self.new ≡ first_limit self.old }
-        ensures second_limit { second_limit self.new ≡ second_limit self.old }
-        ensures rests { OnOk result (self.new.doubt ≡ Nothing) }
-        ensures in_doubt { OnErr result (self.new.doubt ≡ self.old.doubt) }
-        ensures after { OnErr result (Told D.tells self.old → after_doubt self.new ≡ after_doubt self.old) }
-        ensures kept { OnErr result (Told D.tells self.old → self.new.counting.payloads ≡ self.old.counting.payloads) }
+        ensures in_after { result ≡ Ok In → Told D.state self.old
+            → self.new.active.payloads ≡ after_doubt self.old }
+        ensures exact { IfOk result (λ settled. Told D.state self.old → (settled ≡ Out)
+            ↔ (take 1 (drop self.old.standby.end (D.state self.old.standby.disk).seen) ≡ 0 ∷ [])) }
+        ensures in_stays { result ≡ Ok In → IsSettledIn Rewrite self.old self.new }
+        ensures out_stays { result ≡ Ok Out → IsSettledOut Rewrite self.old self.new }
+        ensures fault_stays { OnErr result (IsUnsettled Rewrite self.old self.new) }
         ensures only_fault { OnErr result (IsErrOf result Fault) }
-        ensures any_moment { Told D.tells self.old → PairLeaves D.moment D.left_since self.old self.new (IsEither self.old.counting.payloads (after_doubt self.old)) }
-        ensures images { Told D.tells self.old → PairReads D.may_leave self.new (IsEither self.new.counting.payloads (after_doubt self.new)) }
-        ensures counting { first_of self.old.swapped (first_disk self.new) (second_disk self.new) ≡ self.old.counting.disk }
-        ensures cause { IsBlamed (D.faults self.old.other.disk) (D.faults (second_of self.old.swapped (first_disk self.new) (second_disk self.new))) result }
-        ensures tells { D.tells (second_of self.old.swapped (first_disk self.new) (second_disk self.new)) ≡ D.tells self.old.other.disk }
-        ensures arms { D.arms (second_of self.old.swapped (first_disk self.new) (second_disk self.new)) ≡ D.arms self.old.other.disk }
+        ensures writes_none { WritesNone (D.state self.old.standby.disk)
+            (D.state (second_of self.old.side (first_disk self.new) (second_disk self.new))) }
+        ensures active { first_of self.old.side (first_disk self.new) (second_disk self.new)
+            ≡ self.old.active.disk }
+        ensures any_moment { EachMoment D.state self.old self.new
+            (IsEither self.old.active.payloads (after_doubt self.old)) }
+        ensures images { OnOk result (HasEither D.state self.new) }
+        ensures run { Runs 2 2 (D.state self.old.standby.disk)
+            (D.state (second_of self.old.side (first_disk self.new) (second_disk self.new)))
+            result }
+        ensures cause { IsBlamed (D.state self.old.standby.disk).faults
+            (D.state (second_of self.old.side (first_disk self.new) (second_disk self.new))).faults
+            result }
     {
-        let settled = self.other.settle()?;
+        self.past = recorded(&self.past, self.side, &self.active, &self.standby);
+        let settled = self.standby.settle()?;
         self.doubt = Doubt::Nothing;
         if settled == Settled::In {
-            turn(
-                &mut self.counting,
-                &mut self.other,
-                &mut self.swapped,
+            swap_logs(
+                &mut self.active,
+                &mut self.standby,
+                &mut self.side,
                 &mut self.epoch,
             );
         }
@@ -370,32 +485,31 @@ impl<D: Disk> PairLog<D> {
     /// whatever that disk reads. After `Fault` the doubt stays.
     pub fn settle(&mut self) -> Result<Settled, LogRefused>
         requires in_doubt { self.old.doubt ≡ Nothing → ⊥ }
-        ensures in_after { result ≡ Ok In → Told D.tells self.old → self.new.counting.payloads ≡ after_doubt self.old }
-        ensures out_before { result ≡ Ok Out → Told D.tells self.old → self.new.counting.payloads ≡ self.old.counting.payloads }
+        ensures in_after { result ≡ Ok In → Told D.state self.old
+            → self.new.active.payloads ≡ after_doubt self.old }
         ensures restart_is_out { self.old.doubt ≡ Restart → result ≡ Ok Out }
-        ensures exact { IfOk result (λ settled. Told D.tells self.old → (self.old.doubt ≡ Restart → ⊥) → (settled ≡ Out) ↔ (take 1 (drop (doubted_log self.old).end (D.seen (doubted_log self.old).disk)) ≡ 0 ∷ [])) }
-        ensures in_end { result ≡ Ok In → self.new.counting.end ≡ (doubted_log self.old).end + (5 + doubted_length (doubted_log self.old).standing) }
-        ensures out_end { result ≡ Ok Out → self.new.counting.end ≡ self.old.counting.end }
-        ensures first_kept { Told D.tells self.old → D.seen (first_disk self.new) ≡ D.seen (first_disk self.old) }
-        ensures second_kept { Told D.tells self.old → D.seen (second_disk self.new) ≡ D.seen (second_disk self.old) }
-        ensures first_adds { Told D.tells self.old → AddsNone (D.may_leave (first_disk self.old)) (D.may_leave (first_disk self.new)) }
-        ensures second_adds { Told D.tells self.old → AddsNone (D.may_leave (second_disk self.old)) (D.may_leave (second_disk self.new)) }
-        ensures first_limit { first_limit self.new ≡ first_limit self.old }
-        ensures second_limit { second_limit self.new ≡ second_limit self.old }
-        ensures rests { OnOk result (self.new.doubt ≡ Nothing) }
-        ensures in_doubt { OnErr result (self.new.doubt ≡ self.old.doubt) }
-        ensures after { OnErr result (Told D.tells self.old → after_doubt self.new ≡ after_doubt self.old) }
-        ensures kept { OnErr result (Told D.tells self.old → self.new.counting.payloads ≡ self.old.counting.payloads) }
+        ensures exact { IfOk result
+            (λ settled. Told D.state self.old → (self.old.doubt ≡ Restart → ⊥) → (settled ≡ Out)
+            ↔ (take 1 (drop (doubted_log self.old).end (D.state (doubted_log self.old).disk).seen)
+            ≡ 0 ∷ [])) }
+        ensures in_stays { result ≡ Ok In → IsSettledIn self.old.doubt self.old self.new }
+        ensures out_stays { result ≡ Ok Out → IsSettledOut self.old.doubt self.old self.new }
+        ensures fault_stays { OnErr result (IsUnsettled self.old.doubt self.old self.new) }
         ensures only_fault { OnErr result (IsErrOf result Fault) }
-        ensures any_moment { Told D.tells self.old → PairLeaves D.moment D.left_since self.old self.new (IsEither self.old.counting.payloads (after_doubt self.old)) }
-        ensures images { Told D.tells self.old → PairReads D.may_leave self.new (IsEither self.new.counting.payloads (after_doubt self.new)) }
-        ensures cause { IsErrOf result Fault → Rose (D.faults (first_disk self.old)) (D.faults (first_disk self.new)) ⊎ Rose (D.faults (second_disk self.old)) (D.faults (second_disk self.new)) }
-        ensures first_later { D.faults (first_disk self.old) ≤ D.faults (first_disk self.new) }
-        ensures second_later { D.faults (second_disk self.old) ≤ D.faults (second_disk self.new) }
-        ensures first_told { D.tells (first_disk self.new) ≡ D.tells (first_disk self.old) }
-        ensures second_told { D.tells (second_disk self.new) ≡ D.tells (second_disk self.old) }
-        ensures first_arms { D.arms (first_disk self.new) ≡ D.arms (first_disk self.old) }
-        ensures second_arms { D.arms (second_disk self.new) ≡ D.arms (second_disk self.old) }
+        ensures first_writes_none { WritesNone (D.state (first_disk self.old))
+            (D.state (first_disk self.new)) }
+        ensures second_writes_none { WritesNone (D.state (second_disk self.old))
+            (D.state (second_disk self.new)) }
+        ensures any_moment { EachMoment D.state self.old self.new
+            (IsEither self.old.active.payloads (after_doubt self.old)) }
+        ensures images { OnOk result (HasEither D.state self.new) }
+        ensures run { (self.old.doubt ≡ Restart → ⊥)
+            → Runs 2 2 (D.state (disk_on (doubted_side self.old) self.old))
+            (D.state (disk_on (doubted_side self.old) self.new)) result }
+        ensures cause { IsBlamed (D.state (disk_on (doubted_side self.old) self.old)).faults
+            (D.state (disk_on (doubted_side self.old) self.new)).faults result }
+        ensures other_stays { disk_on (other_side (doubted_side self.old)) self.new
+            ≡ disk_on (other_side (doubted_side self.old)) self.old }
     {
         match self.doubt {
             Doubt::Commit => self.settle_commit(),
@@ -407,122 +521,172 @@ impl<D: Disk> PairLog<D> {
         }
     }
 
-    // Commits the snapshot to the other log, which is empty.
-    fn commit_other(&mut self, snapshot: &Draft) -> Result<(), LogRefused>
+    // Commits the snapshot to the standby, which is empty, and makes it active.
+    fn commit_standby(&mut self, snapshot: &Draft) -> Result<(), LogRefused>
         requires rests { self.old.doubt ≡ Nothing }
-        requires other_rests { self.old.other.standing ≡ AtRest }
-        requires empty { self.old.other.payloads ≡ [] }
-        requires room { 0 < self.old.other.spare }
-        requires fits { self.old.other.end + (6 + length snapshot.now) ≤ self.old.other.limit }
+        requires standby_rests { self.old.standby.standing ≡ AtRest }
+        requires empty { self.old.standby.payloads ≡ [] }
+        requires room { 0 < self.old.standby.spare }
+        requires fits { self.old.standby.end + (6 + length snapshot.now) ≤ self.old.standby.limit }
         requires epoch { take 8 snapshot.now ≡ to_be_bytes w64 (next_epoch self.old.epoch) }
-        ensures list { OnOk result (Told D.tells self.old → self.new.counting.payloads ≡ snapshot.now ∷ []) }
-        ensures turned { OnOk result (self.new.swapped ≡ not self.old.swapped) }
-        ensures epoch { OnOk result (self.new.epoch ≡ next_epoch self.old.epoch) }
-        ensures end { OnOk result (self.new.counting.end ≡ self.old.other.end + (5 + length snapshot.now)) }
-        ensures first_limit { first_limit self.new ≡ first_limit self.old }
-        ensures second_limit { second_limit self.new ≡ second_limit self.old }
-        ensures rests { OnOk result (self.new.doubt ≡ Nothing) }
-        ensures in_doubt { OnErr result (self.new.doubt ≡ Rewrite) }
-        ensures after { OnErr result (Told D.tells self.old → after_doubt self.new ≡ snapshot.now ∷ []) }
-        ensures kept { OnErr result (self.new.counting ≡ self.old.counting) }
-        ensures not_turned { OnErr result (self.new.swapped ≡ self.old.swapped) }
-        ensures epoch_kept { OnErr result (self.new.epoch ≡ self.old.epoch) }
-        ensures stood { OnErr result ((self.new.other.standing ≡ InDoubt snapshot.now) × (self.new.other.end ≡ self.old.other.end)) }
+        ensures list { OnOk result
+            (Told D.state self.old → self.new.active.payloads ≡ snapshot.now ∷ []) }
+        ensures stays { OnOk result (self.new ≡ record {
+          active = record self.old.standby {
+            disk = self.new.active.disk;
+            payloads = self.new.active.payloads;
+            end = self.old.standby.end + (5 + length snapshot.now);
+            spare = self.new.active.spare;
+          };
+          standby = self.old.active;
+          side = other_side self.old.side;
+          epoch = next_epoch self.old.epoch;
+          doubt = Nothing;
+          past = self.old.past;
+        }) }
+        ensures in_doubt { OnErr result (self.new ≡ record self.old {
+          standby = record self.old.standby {
+            disk = self.new.standby.disk;
+            payloads = self.new.standby.payloads;
+            standing = InDoubt snapshot.now;
+          };
+          doubt = Rewrite;
+        }) }
+        ensures past { self.new.past ≡ self.old.past }
         ensures only_fault { OnErr result (IsErrOf result Fault) }
-        ensures other_moment { Told D.tells self.old → LeavesOnly (D.moment self.old.other.disk) (D.moment (second_of self.old.swapped (first_disk self.new) (second_disk self.new)))
-            (D.left_since self.old.other.disk) (D.left_since (second_of self.old.swapped (first_disk self.new) (second_disk self.new)))
-            (IsNewOrOlder self.old.swapped self.old.counting.payloads snapshot.now) }
-        ensures images { Told D.tells self.old → PairReads D.may_leave self.new (IsEither self.new.counting.payloads (after_doubt self.new)) }
-        ensures counting { first_of self.old.swapped (first_disk self.new) (second_disk self.new) ≡ self.old.counting.disk }
-        ensures cause { IsBlamed (D.faults self.old.other.disk) (D.faults (second_of self.old.swapped (first_disk self.new) (second_disk self.new))) result }
-        ensures tells { D.tells (second_of self.old.swapped (first_disk self.new) (second_disk self.new)) ≡ D.tells self.old.other.disk }
-        ensures arms { D.arms (second_of self.old.swapped (first_disk self.new) (second_disk self.new)) ≡ D.arms self.old.other.disk }
+        ensures bytes { OnOk result (Told D.state self.old → (D.state self.new.active.disk).seen
+            ≡ with_record self.old.standby.end snapshot.now (D.state self.old.standby.disk).seen) }
+        ensures torn { Told D.state self.old → Torn self.old.standby.end (6 + length snapshot.now)
+            (D.state self.old.standby.disk).seen
+            (D.state (second_of self.old.side (first_disk self.new) (second_disk self.new))).seen }
+        ensures standby_moment { Told D.state self.old → LeavesOnly (D.state self.old.standby.disk)
+            (D.state (second_of self.old.side (first_disk self.new) (second_disk self.new)))
+            (IsNewOrOlder self.old.side self.old.active.payloads snapshot.now) }
+        ensures images { HasEither D.state self.new }
+        ensures active { first_of self.old.side (first_disk self.new) (second_disk self.new)
+            ≡ self.old.active.disk }
+        ensures run { Runs 4 4 (D.state self.old.standby.disk)
+            (D.state (second_of self.old.side (first_disk self.new) (second_disk self.new)))
+            result }
+        ensures cause { IsBlamed (D.state self.old.standby.disk).faults
+            (D.state (second_of self.old.side (first_disk self.new) (second_disk self.new))).faults
+            result }
     {
-        if let Err(refused) = self.other.commit(snapshot) {
+        if let Err(refused) = self.standby.commit(snapshot) {
             self.doubt = Doubt::Rewrite;
             return Err(refused);
         }
-        turn(
-            &mut self.counting,
-            &mut self.other,
-            &mut self.swapped,
+        swap_logs(
+            &mut self.active,
+            &mut self.standby,
+            &mut self.side,
             &mut self.epoch,
         );
         Ok(())
     }
 
-    /// Makes a snapshot, with its epoch in front, the whole list: the other disk is emptied, gets it as its record 0, and
-    /// counts from then on. `Full` is answered exactly where it would pass the limit, and nothing is changed then; after
+    /// Makes a snapshot, with its epoch in front, the whole list: the standby is emptied, gets it as its record 0, and is
+    /// active from then on. `Full` is answered exactly where it would pass the limit, and nothing is changed then; after
     /// `Fault` it is open whether the snapshot is there, until `settle` answers.
     pub fn rewrite(&mut self, snapshot: &Draft) -> Result<(), LogRefused>
         requires rests { self.old.doubt ≡ Nothing }
-        requires room { 0 < self.old.other.spare }
+        requires room { 0 < self.old.standby.spare }
         requires epoch { take 8 snapshot.now ≡ to_be_bytes w64 (next_epoch self.old.epoch) }
-        ensures list { OnOk result (Told D.tells self.old → self.new.counting.payloads ≡ snapshot.now ∷ []) }
-        ensures turned { OnOk result (self.new.swapped ≡ not self.old.swapped) }
-        ensures epoch { OnOk result (self.new.epoch ≡ next_epoch self.old.epoch) }
-        ensures end { OnOk result (self.new.counting.end ≡ 5 + length snapshot.now) }
-        ensures first_limit { first_limit self.new ≡ first_limit self.old }
-        ensures second_limit { second_limit self.new ≡ second_limit self.old }
-        ensures rests { OnOk result (self.new.doubt ≡ Nothing) }
-        ensures full { IsErrOf result Full ↔ self.old.other.limit < 6 + length snapshot.now }
+        ensures list { OnOk result
+            (Told D.state self.old → self.new.active.payloads ≡ snapshot.now ∷ []) }
+        ensures stays { OnOk result (self.new ≡ record {
+          active = record self.old.standby {
+            disk = self.new.active.disk;
+            payloads = self.new.active.payloads;
+            end = 5 + length snapshot.now;
+            spare = self.new.active.spare;
+            standing = AtRest;
+          };
+          standby = self.old.active;
+          side = other_side self.old.side;
+          epoch = next_epoch self.old.epoch;
+          doubt = Nothing;
+          past = self.old.past ++ both_disks self.old ∷ [];
+        }) }
+        ensures bytes { OnOk result (Told D.state self.old → (D.state self.new.active.disk).seen
+            ≡ with_record 0 snapshot.now (D.state self.old.standby.disk).seen) }
+        ensures full { IsErrOf result Full ↔ self.old.standby.limit < 6 + length snapshot.now }
         ensures nothing_changed { IsErrOf result Full → self.new ≡ self.old }
-        ensures in_doubt { IsErrOf result Fault → (self.new.doubt ≡ Rewrite) ⊎ (self.new.doubt ≡ Restart) }
-        ensures after { IsErrOf result Fault → Told D.tells self.old → self.new.doubt ≡ Rewrite → after_doubt self.new ≡ snapshot.now ∷ [] }
-        ensures kept { OnErr result (self.new.counting ≡ self.old.counting) }
-        ensures not_turned { OnErr result (self.new.swapped ≡ self.old.swapped) }
-        ensures epoch_kept { OnErr result (self.new.epoch ≡ self.old.epoch) }
-        ensures stood { IsErrOf result Fault → self.new.doubt ≡ Rewrite → (self.new.other.standing ≡ InDoubt snapshot.now) × (self.new.other.end ≡ 0) }
+        ensures in_doubt { IsErrOf result Fault
+            → (self.new ≡ record self.old {
+              standby = record self.old.standby {
+                disk = self.new.standby.disk;
+                payloads = self.new.standby.payloads;
+                end = 0;
+                spare = self.new.standby.spare;
+                standing = InDoubt snapshot.now;
+              };
+              doubt = Rewrite;
+              past = self.old.past ++ both_disks self.old ∷ [];
+            })
+            ⊎ (self.new ≡ record self.old {
+              standby = record self.old.standby {
+                disk = self.new.standby.disk;
+                payloads = [];
+                end = 0;
+                spare = self.new.standby.spare;
+                standing = Lost;
+              };
+              doubt = Restart;
+              past = self.old.past ++ both_disks self.old ∷ [];
+            }) }
         ensures never_memory { IsErrOf result Memory → ⊥ }
-        ensures any_moment { Told D.tells self.old → PairLeaves D.moment D.left_since self.old self.new (IsEither self.old.counting.payloads (snapshot.now ∷ [])) }
-        ensures other_moment { Told D.tells self.old → LeavesOnly (D.moment self.old.other.disk) (D.moment (second_of self.old.swapped (first_disk self.new) (second_disk self.new)))
-            (D.left_since self.old.other.disk) (D.left_since (second_of self.old.swapped (first_disk self.new) (second_disk self.new)))
-            (IsNewOrOlder self.old.swapped self.old.counting.payloads snapshot.now) }
-        ensures images { Told D.tells self.old → PairReads D.may_leave self.new (IsEither self.new.counting.payloads (after_doubt self.new)) }
-        ensures counting { first_of self.old.swapped (first_disk self.new) (second_disk self.new) ≡ self.old.counting.disk }
-        ensures cause { IsBlamed (D.faults self.old.other.disk) (D.faults (second_of self.old.swapped (first_disk self.new) (second_disk self.new))) result }
-        ensures tells { D.tells (second_of self.old.swapped (first_disk self.new) (second_disk self.new)) ≡ D.tells self.old.other.disk }
-        ensures arms { D.arms (second_of self.old.swapped (first_disk self.new) (second_disk self.new)) ≡ D.arms self.old.other.disk }
+        ensures any_moment { EachMoment D.state self.old self.new
+            (IsEither self.old.active.payloads (snapshot.now ∷ [])) }
+        ensures images { HasEither D.state self.new }
+        ensures active { first_of self.old.side (first_disk self.new) (second_disk self.new)
+            ≡ self.old.active.disk }
+        ensures run { Runs 6 8 (D.state self.old.standby.disk)
+            (D.state (second_of self.old.side (first_disk self.new) (second_disk self.new)))
+            result }
+        ensures cause { IsBlamed (D.state self.old.standby.disk).faults
+            (D.state (second_of self.old.side (first_disk self.new) (second_disk self.new))).faults
+            result }
     {
-        if self.other.limit() < 6 + snapshot.len() as u64 {
+        if self.standby.limit() < 6 + snapshot.len() as u64 {
             return Err(LogRefused::Full);
         }
-        if self.other.restart().is_err() {
+        self.past = recorded(&self.past, self.side, &self.active, &self.standby);
+        if self.standby.restart().is_err() {
             self.doubt = Doubt::Restart;
             return Err(LogRefused::Fault);
         }
-        self.commit_other(snapshot)
+        self.commit_standby(snapshot)
     }
 
     /// Lets the device call of this number from now on fail, once, on the first disk or the second one, 0 or 1, where it
     /// is made for that.
     pub fn arm(&mut self, disk: usize, call: u32) -> Result<(), AllocError>
         requires { disk < 2 }
-        ensures list { Told D.tells self.old → self.new.counting.payloads ≡ self.old.counting.payloads }
-        ensures after { Told D.tells self.old → after_doubt self.new ≡ after_doubt self.old }
-        ensures end { self.new.counting.end ≡ self.old.counting.end }
-        ensures limit { self.new.counting.limit ≡ self.old.counting.limit }
-        ensures limit_other { self.new.other.limit ≡ self.old.other.limit }
-        ensures doubt { self.new.doubt ≡ self.old.doubt }
-        ensures epoch { self.new.epoch ≡ self.old.epoch }
-        ensures swapped { self.new.swapped ≡ self.old.swapped }
-        ensures spare { self.new.counting.spare ≡ self.old.counting.spare }
-        ensures spare_other { self.new.other.spare ≡ self.old.other.spare }
-        ensures first_told { D.tells (first_disk self.new) ≡ D.tells (first_disk self.old) }
-        ensures second_told { D.tells (second_disk self.new) ≡ D.tells (second_disk self.old) }
-        ensures first_kept { Told D.tells self.old → D.seen (first_disk self.new) ≡ D.seen (first_disk self.old) }
-        ensures second_kept { Told D.tells self.old → D.seen (second_disk self.new) ≡ D.seen (second_disk self.old) }
-        ensures first_images { Told D.tells self.old → AddsNone (D.may_leave (first_disk self.old)) (D.may_leave (first_disk self.new)) }
-        ensures second_images { Told D.tells self.old → AddsNone (D.may_leave (second_disk self.old)) (D.may_leave (second_disk self.new)) }
-        ensures first_faults { D.faults (first_disk self.new) ≡ D.faults (first_disk self.old) }
-        ensures second_faults { D.faults (second_disk self.new) ≡ D.faults (second_disk self.old) }
-        ensures first_arms { D.arms (first_disk self.old) ≤ D.arms (first_disk self.new) }
-        ensures second_arms { D.arms (second_disk self.old) ≤ D.arms (second_disk self.new) }
+        ensures first { disk ≡ 0
+            → OnOk result (D.arms_at call (first_disk self.old) (first_disk self.new)) }
+        ensures second { disk ≡ 1
+            → OnOk result (D.arms_at call (second_disk self.old) (second_disk self.new)) }
+        ensures second_stays { disk ≡ 0 → second_disk self.new ≡ second_disk self.old }
+        ensures first_stays { disk ≡ 1 → first_disk self.new ≡ first_disk self.old }
+        ensures refused { OnErr result (both_disks self.new ≡ both_disks self.old) }
+        ensures stays { self.new ≡ record self.old {
+          active = record self.old.active { disk = self.new.active.disk };
+          standby = record self.old.standby { disk = self.new.standby.disk };
+          past = self.old.past ++ both_disks self.old ∷ [];
+        } }
+        ensures any_moment { EachMoment D.state self.old self.new
+            (IsEither self.old.active.payloads (after_doubt self.old)) }
+        ensures active_armed { IsArmed (D.state self.old.active.disk)
+            (D.state self.new.active.disk) }
+        ensures standby_armed { IsArmed (D.state self.old.standby.disk)
+            (D.state self.new.standby.disk) }
     {
-        if (disk == 1) == self.swapped {
-            self.counting.arm(0, call)?;
+        self.past = recorded(&self.past, self.side, &self.active, &self.standby);
+        if (disk == 1) == (self.side == Side::Second) {
+            self.active.arm(0, call)?;
         } else {
-            self.other.arm(0, call)?;
+            self.standby.arm(0, call)?;
         }
         Ok(())
     }
@@ -535,17 +699,20 @@ impl<D: Disk> PairLog<D> {
         ensures capacity { vec_capacity out.new ≡ vec_capacity out.old }
     {
         let PairLog {
-            counting,
-            other,
-            swapped,
+            active,
+            standby,
+            side,
             ..
         } = self;
-        if swapped {
-            other.disks(out);
-            counting.disks(out);
-        } else {
-            counting.disks(out);
-            other.disks(out);
+        match side {
+            Side::First => {
+                active.disks(out);
+                standby.disks(out);
+            }
+            Side::Second => {
+                standby.disks(out);
+                active.disks(out);
+            }
         }
     }
 }

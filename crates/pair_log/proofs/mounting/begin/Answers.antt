@@ -1,15 +1,12 @@
-use Rattle.std.proofs.Common.{[], inl, ◌∙◌}
-use Rattle.outside.specs.DiskModel.{leaves_only_at_first}
+use Rattle.std.proofs.Common.{[], ◌≡◌, List, ℕ, inl, subst, ◌∙◌}
+use Rattle.outside.specs.DiskModel.{DiskState, LeavesOnly, leaves_only_at_first}
+use Rattle.gated_log.specs.PlainLog.{AllHave, AtRest, PlainLog}
 use Rattle.gated_log.specs.Stands.{IsBeforeOrAfter}
-use Rattle.pair_log.specs.Mounted.{first_record}
-use Rattle.pair_log.proofs.mounting.begin.Goals as goal
 
-pub returns-in_err-draft-clause-any_moment : goal.returns-in_err-draft-clause-any_moment
-returns-in_err-draft-clause-any_moment g c = λ told.
-    leaves_only_at_first _ _ _ (IsBeforeOrAfter [] (first_record c.args.snapshot.now)) (λ image left. g.met.D.Disk.only_now _ image told left)
-    (λ image left. inl (c.requires.images told image left ∙ c.requires.empty))
-
-pub returns-in_err-reserve-clause-any_moment : goal.returns-in_err-reserve-clause-any_moment
-returns-in_err-reserve-clause-any_moment g c = rw (c.reserve.ensures.disk) (λ told.
-    leaves_only_at_first _ _ _ (IsBeforeOrAfter [] (first_record c.args.snapshot.now)) (λ image left. g.met.D.Disk.only_now _ image told left)
-    (λ image left. inl (c.requires.images told image left ∙ c.requires.empty)))
+-- before anything is written
+still : {D : Type 0} (state : D → DiskState) (log : PlainLog D) (first : List ℕ)
+    → ((image : List ℕ) → (state log.disk).left_since (state log.disk).calls image → (state log.disk).may_leave image) → log.standing ≡ AtRest → log.payloads ≡ []
+    → AllHave log.standing log.payloads (state log.disk).may_leave → LeavesOnly (state log.disk) (state log.disk) (IsBeforeOrAfter [] first)
+still state log first now rests empty has =
+    leaves_only_at_first (state log.disk) (IsBeforeOrAfter [] first) now
+    (λ image left. inl (subst (λ s. AllHave s log.payloads (state log.disk).may_leave) rests has image left ∙ empty))

@@ -1,8 +1,9 @@
-use Rattle.pair_log.proofs.SettleLemmas.{counting_moment}
+use Rattle.std.proofs.Common.{[]}
+use Rattle.pair_log.specs.PlainPair.{IsEither, PlainPair, after_doubt}
+use Rattle.pair_log.proofs.PairLemmas.{no_step}
 use Rattle.pair_log.proofs.pair.PairLog.settle.Goals as goal
 
 pub returns-in-Nothing-clause-any_moment : goal.returns-in-Nothing-clause-any_moment
-returns-in-Nothing-clause-any_moment g c = rw (← c.self.view_is) (λ told.
-    counting_moment g.D.Disk.tells g.D.Disk.may_leave g.D.Disk.moment g.D.Disk.left_since _ c.self.inside.counting.disk c.self.invariant told
-    (λ a left. (c.self.invariant.told told).counting_has a (g.met.D.Disk.only_now c.self.inside.counting.disk a told.0 left))
-    (λ b left. g.met.D.Disk.only_now c.self.inside.other.disk b told.1 left))
+returns-in-Nothing-clause-any_moment g c =
+    let pair : PlainPair g.row.D.Denot = record { active = c.self.inside.active; standby = c.self.inside.standby; side = c.self.inside.side; epoch = c.self.inside.epoch; doubt = c.self.inside.doubt; past = [] } in
+    rw (← c.self.view_is) (λ told. no_step g.D.Disk.state (IsEither pair.active.payloads (after_doubt pair)) _ _)
