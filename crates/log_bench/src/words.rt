@@ -89,7 +89,8 @@ fn number_of(word: &str, least: u64, most: u64) -> Option<u64>
 
 // Whether a text has no plus sign in front, and no 0 in front of more.
 fn begins_plainly(text: &[u8]) -> bool
-    ensures { IsTrue result ↔ ((slice_index text.now 0 ≢ 43) × (slice_index text.now 0 ≡ 48 → length text.now ≡ 1)) }
+    ensures { IsTrue result
+        ↔ ((slice_index text.now 0 ≢ 43) × (slice_index text.now 0 ≡ 48 → length text.now ≡ 1)) }
 {
     match text {
         [b'+', ..] => false,

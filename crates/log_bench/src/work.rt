@@ -1,6 +1,7 @@
 // The work over one disk.
 ghost use Rattle.std.specs.Prelude.{◌≡◌, ◌==◌, ◌+◌, ◌<◌, ◌≤◌, [], ◌++◌, length, replicate, slice_index_or, if◌then◌else◌, map, IsTrue, IfOk, OnOk, Some, None};
-ghost use Rattle.gated_log.specs.PlainLog.{AllHave, AtRest};
+ghost use Rattle.gated_log.specs.PlainLog.{AtRest};
+ghost use Rattle.gated_log.specs.Calls.{ImagesHave};
 ghost use Rattle.gated_log.specs.Records.{records};
 ghost use Rattle.log_bench.specs.Answer.{answer_to, read_after};
 ghost use Rattle.log_bench.specs.Words.{IsPossible};
@@ -27,7 +28,9 @@ pub fn do_in_memory(alloc: Global, task: &Task) -> Result<Done, LogRefused>
 /// disk, which is let go.
 pub fn do_task<D: Disk + Drop>(alloc: Global, disk: D, task: &Task) -> Result<Done, LogRefused>
     requires possible { IsPossible task.now }
-    ensures done { IfOk result (λ done. IsTrue (D.tells disk) → records (D.seen disk) ≡ [] → done ≡ answer_to task.now) }
+    ensures done { IfOk result
+        (λ done. IsTrue (D.state disk).tells → records (D.state disk).seen ≡ []
+        → done ≡ answer_to task.now) }
 {
     match *task {
         Task::Commits { count } => do_commits(alloc, disk, count),
@@ -42,7 +45,9 @@ pub fn do_task<D: Disk + Drop>(alloc: Global, disk: D, task: &Task) -> Result<Do
 
 // Commits, and counts the records.
 fn do_commits<D: Disk + Drop>(alloc: Global, disk: D, count: u64) -> Result<Done, LogRefused>
-    ensures count { IfOk result (λ done. IsTrue (D.tells disk) → records (D.seen disk) ≡ [] → done.count ≡ count) }
+    ensures count { IfOk result
+        (λ done. IsTrue (D.state disk).tells → records (D.state disk).seen ≡ []
+        → done.count ≡ count) }
     ensures read { IfOk result (λ done. done.read ≡ None) }
 {
     let log = filled(alloc, disk, count)?;
@@ -59,7 +64,9 @@ fn do_mounts<D: Disk + Drop>(
     count: u64,
     mounts: u64,
 ) -> Result<Done, LogRefused>
-    ensures count { IfOk result (λ done. IsTrue (D.tells disk) → records (D.seen disk) ≡ [] → done.count ≡ count) }
+    ensures count { IfOk result
+        (λ done. IsTrue (D.state disk).tells → records (D.state disk).seen ≡ []
+        → done.count ≡ count) }
     ensures read { IfOk result (λ done. done.read ≡ None) }
 {
     let log = filled(alloc, disk, count)?;
@@ -79,8 +86,12 @@ fn do_entries<D: Disk + Drop>(
     reads: u64,
 ) -> Result<Done, LogRefused>
     requires within { entry < count }
-    ensures count { IfOk result (λ done. IsTrue (D.tells disk) → records (D.seen disk) ≡ [] → done.count ≡ count) }
-    ensures read { IfOk result (λ done. IsTrue (D.tells disk) → records (D.seen disk) ≡ [] → done.read ≡ Some (read_after reads)) }
+    ensures count { IfOk result
+        (λ done. IsTrue (D.state disk).tells → records (D.state disk).seen ≡ []
+        → done.count ≡ count) }
+    ensures read { IfOk result
+        (λ done. IsTrue (D.state disk).tells → records (D.state disk).seen ≡ []
+        → done.read ≡ Some (read_after reads)) }
 {
     let mut log = filled(alloc, disk, count)?;
     let bytes = read_times(alloc, &mut log, entry, reads)?;
@@ -92,10 +103,11 @@ fn do_entries<D: Disk + Drop>(
 
 // The log on a disk, with no limit.
 fn mounted<D: Disk + Drop>(alloc: Global, disk: D) -> Result<Log<D>, LogRefused>
-    ensures list { IfOk result (λ log. IsTrue (D.tells disk) → log.payloads ≡ records (D.seen disk)) }
-    ensures images { IfOk result (λ log. IsTrue (D.tells disk) → AllHave AtRest log.payloads (D.may_leave log.disk)) }
+    ensures list { IfOk result
+        (λ log. IsTrue (D.state disk).tells → log.payloads ≡ records (D.state disk).seen) }
+    ensures images { IfOk result (λ log. ImagesHave D.state log) }
     ensures rests { IfOk result (λ log. log.standing ≡ AtRest) }
-    ensures tells { IfOk result (λ log. D.tells log.disk ≡ D.tells disk) }
+    ensures tells { IfOk result (λ log. (D.state log.disk).tells ≡ (D.state disk).tells) }
 {
     match Log::mount(alloc, disk, u64::MAX) {
         Ok(log) => Ok(log),
@@ -105,11 +117,13 @@ fn mounted<D: Disk + Drop>(alloc: Global, disk: D) -> Result<Log<D>, LogRefused>
 
 // The log on a disk, after so many commits of one record.
 fn filled<D: Disk + Drop>(alloc: Global, disk: D, count: u64) -> Result<Log<D>, LogRefused>
-    ensures list { IfOk result (λ log. IsTrue (D.tells disk) → records (D.seen disk) ≡ [] → map length log.payloads ≡ replicate count RECORD_LENGTH) }
+    ensures list { IfOk result
+        (λ log. IsTrue (D.state disk).tells → records (D.state disk).seen ≡ []
+        → map length log.payloads ≡ replicate count RECORD_LENGTH) }
     ensures count { IfOk result (λ log. count ≤ length log.payloads) }
-    ensures images { IfOk result (λ log. IsTrue (D.tells disk) → AllHave AtRest log.payloads (D.may_leave log.disk)) }
+    ensures images { IfOk result (λ log. ImagesHave D.state log) }
     ensures rests { IfOk result (λ log. log.standing ≡ AtRest) }
-    ensures tells { IfOk result (λ log. D.tells log.disk ≡ D.tells disk) }
+    ensures tells { IfOk result (λ log. (D.state log.disk).tells ≡ (D.state disk).tells) }
 {
     let draft = draft_of(alloc, RECORD_LENGTH)?;
     let mut log = mounted(alloc, disk)?;
@@ -130,12 +144,14 @@ fn draft_of(alloc: Global, size: usize) -> Result<Draft, AllocError>
 // Commits one draft so many times.
 fn commit_times<D: Disk>(log: &mut Log<D>, draft: &Draft, times: u64) -> Result<(), LogRefused>
     requires rests { log.old.standing ≡ AtRest }
-    requires images { IsTrue (D.tells log.old.disk) → AllHave AtRest log.old.payloads (D.may_leave log.old.disk) }
-    ensures list { OnOk result (IsTrue (D.tells log.old.disk) → log.new.payloads ≡ log.old.payloads ++ replicate times draft.now) }
+    requires images { ImagesHave D.state log.old }
+    ensures list { OnOk result
+        (IsTrue (D.state log.old.disk).tells
+        → log.new.payloads ≡ log.old.payloads ++ replicate times draft.now) }
     ensures count { OnOk result (length log.new.payloads ≡ length log.old.payloads + times) }
-    ensures images { OnOk result (IsTrue (D.tells log.old.disk) → AllHave AtRest log.new.payloads (D.may_leave log.new.disk)) }
+    ensures images { OnOk result (ImagesHave D.state log.new) }
     ensures rests { OnOk result (log.new.standing ≡ AtRest) }
-    ensures tells { D.tells log.new.disk ≡ D.tells log.old.disk }
+    ensures tells { (D.state log.new.disk).tells ≡ (D.state log.old.disk).tells }
 {
     for _round in 0..times {
         log.reserve()?;
@@ -150,9 +166,11 @@ fn mounted_again<D: Disk + Drop>(
     log: Log<D>,
     times: u64,
 ) -> Result<Log<D>, LogRefused>
-    requires images { IsTrue (D.tells log.disk) → AllHave AtRest log.payloads (D.may_leave log.disk) }
-    ensures list { IfOk result (λ again. IsTrue (D.tells log.disk) → again.payloads ≡ log.payloads) }
-    ensures tells { IfOk result (λ again. D.tells again.disk ≡ D.tells log.disk) }
+    requires rests { log.standing ≡ AtRest }
+    requires images { ImagesHave D.state log }
+    ensures list { IfOk result
+        (λ again. IsTrue (D.state log.disk).tells → again.payloads ≡ log.payloads) }
+    ensures tells { IfOk result (λ again. (D.state again.disk).tells ≡ (D.state log.disk).tells) }
 {
     let mut log = log;
     for _round in 0..times {
@@ -170,8 +188,10 @@ fn read_times<D: Disk>(
 ) -> Result<u64, LogRefused>
     requires rests { log.old.standing ≡ AtRest }
     requires within { entry < length log.old.payloads }
-    ensures bytes { IfOk result (λ bytes. IsTrue (D.tells log.old.disk) → bytes ≡ (if times == 0 then 0 else length (slice_index_or log.old.payloads entry []))) }
-    ensures list { IsTrue (D.tells log.old.disk) → log.new.payloads ≡ log.old.payloads }
+    ensures bytes { IfOk result
+        (λ bytes. IsTrue (D.state log.old.disk).tells
+        → bytes ≡ (if times == 0 then 0 else length (slice_index_or log.old.payloads entry []))) }
+    ensures list { IsTrue (D.state log.old.disk).tells → log.new.payloads ≡ log.old.payloads }
     ensures count { length log.new.payloads ≡ length log.old.payloads }
 {
     let mut bytes = Vec::new(alloc);
