@@ -5,4 +5,5 @@ pub mod ReadingLemmas
 pub mod RunningLemmas
 pub mod Stored
 pub mod Subscribing
+pub mod TakesLemmas
 pub mod TextLemmas

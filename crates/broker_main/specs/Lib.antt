@@ -1,2 +1,3 @@
 pub mod BrokerView
 pub mod Outcome
+pub mod Takes

@@ -1,5 +1,5 @@
 -- What a call of the program puts out.
-use Rattle.std.specs.Prelude.{ℕ, ◌<◌, ◌≡◌, Bool, false, nat_lt, if◌then◌else◌, List, [], ◌∷◌, ◌++◌, codes, length, ◌⊎◌, Option, Some, None, ⊤, IsSome, IfSome, refl}
+use Rattle.std.specs.Prelude.{ℕ, ◌<◌, ◌≡◌, Bool, false, nat_lt, if◌then◌else◌, List, [], ◌∷◌, ◌++◌, codes, length, ◌⊎◌, Option, Some, None, ⊤, IsSome, IsSomeAnd, IsTrue, IfSome, refl}
 use Rattle.std.specs.Fmt.{decimal, digits}
 use Rattle.std.specs.Str.{bytes_eq}
 use Rattle.world_terms.specs.Script.{line_texts, first_bad_line}
@@ -61,11 +61,11 @@ bad_line = refl
 opened : whole_text (codes "replay" ∷ []) (codes "open 1" ++ 10 ∷ codes "pump 1") ≡ []
 opened = refl
 
--- why a source wasn't read to its end: what was left was too long, where that was told, or the source failed
+-- why a source wasn't read to its end: what was left was too long, where that was told, or the source failed, and else it didn't
 abbrev pub StopsReading : ReadStopped → Option (List ℕ) → ℕ → ℕ → Type 0
-StopsReading reading.TooLong left before now = IfSome left (λ script. script_limit < length script)
+StopsReading reading.TooLong left before now = IfSome left (λ script. script_limit < length script) × (now ≡ before)
 StopsReading reading.Source left before now = Rose before now
-StopsReading reading.Memory left before now = ⊤
+StopsReading reading.Memory left before now = now ≡ before
 
 -- why a run stopped before its end
 abbrev pub StopsRun : RunStopped → ℕ → ℕ → Type 0
@@ -80,3 +80,15 @@ pub record Ends (status : ℕ) (refusal : Option (List ℕ)) (text : List ℕ) (
   pub refused : status ≡ 2 → IsSome refusal × Puts before now text
   pub sink : status ≡ 4 → Rose faults later × PutsFront before now text
   pub memory : status ≡ 5 → PutsFront before now text
+
+-- How a call with these words ends, by its number: what the source had left, where it told that, and what the sink had
+-- taken before and has taken now. It is what `run_offline` says of them.
+pub record EndsCall (words : List (List ℕ)) (left : Option (List ℕ)) (status : ℕ) (before now : Option (List ℕ)) : Type 0 where
+  pub statuses : (status ≡ 0) ⊎ (status ≡ 2) ⊎ (status ≡ 3) ⊎ (status ≡ 4) ⊎ (status ≡ 5)
+  pub done : status ≡ 0 → IfSome left (λ script. (refusal_text words script ≡ None) × Puts before now (text_of_script script))
+  pub refused : status ≡ 2 → IfSome left (λ script. IsSomeAnd (refusal_text words script) (Puts before now))
+  pub nothing_put : status ≡ 3 → now ≡ before
+  pub front : status ≡ 4 → IfSome left (λ script. PutsFront before now (whole_text words script))
+  pub memory : status ≡ 5 → IfSome left (λ script. PutsFront before now (whole_text words script))
+  pub asked : (status ≡ 0) ⊎ (status ≡ 3) ⊎ (status ≡ 5) → IsTrue (are_replay words)
+  pub usage : are_replay words ≡ false → ((status ≡ 2) × Puts before now usage_text) ⊎ ((status ≡ 4) × PutsFront before now usage_text)

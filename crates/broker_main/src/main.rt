@@ -4,25 +4,17 @@
 mod broker;
 mod finding;
 mod offline;
+mod program;
 mod reading;
 mod running;
 #[cfg(test)]
 mod tests;
 
-use outside::{Input, Output};
 use std::process::ExitCode;
 use std::{env, io};
 
 fn main(rt: HostRuntime) -> ExitCode {
-    let status = match words(&rt) {
-        Ok(words) => {
-            let mut source = Input::new(rt.reader());
-            let mut sink = Output::new(io::writer(&rt));
-            offline::run_offline(rt.alloc(), &words, &mut source, &mut sink)
-        }
-        Err(_) => offline::NO_MEMORY,
-    };
-    ExitCode::from(status)
+    program::run_program(rt.alloc(), words(&rt), rt.reader(), io::writer(&rt)).0
 }
 
 // The words behind the program's name.

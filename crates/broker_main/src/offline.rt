@@ -1,12 +1,13 @@
 // A whole call of the program on a source and a sink.
-ghost use Rattle.std.specs.Prelude.{◌≡◌, ◌⊎◌, ◌≤◌, length, [], map, false, None, Some, IfSome, IsSomeAnd, IsTrue, string_bytes};
+ghost use Rattle.std.specs.Prelude.{◌≡◌, ◌≢◌, ◌⊎◌, ◌≤◌, length, [], map, false, None, Some, IfSome, IsSomeAnd, IsTrue, string_bytes};
 ghost use Rattle.outside.specs.Cause.{Rose};
 ghost use Rattle.outside.specs.Sink.{Puts, PutsFront};
 ghost use Rattle.world_terms.specs.Laws.{IssuesPrefixes};
 ghost use Rattle.world_terms.specs.Run.{after_lines, text_of_script};
 ghost use Rattle.world_terms.specs.Script.{line_texts};
 ghost use Rattle.world_terms.specs.Turn.{opening_state};
-ghost use Rattle.broker_main.specs.Outcome.{Ends, are_replay, bad_line_text, refusal_of_script, refusal_text, script_limit, text_or_run, usage_text, whole_text};
+ghost use Rattle.broker_main.specs.Outcome.{Ends, are_replay, bad_line_text, refusal_of_script, refusal_text, script_limit, text_or_run, too_long_text, usage_text, whole_text};
+ghost use Rattle.broker_main.specs.Takes.{EndsAtOnce, GivesSome, ReadsOnce, StopsPast};
 
 use crate::reading::{ReadStopped, read_script};
 use crate::running::{RunStopped, run_lines};
@@ -55,6 +56,18 @@ pub fn run_offline<S: Source, K: Sink>(
         → ((result ≡ 2) × Puts (K.taken sink.old) (K.taken sink.new) usage_text)
         ⊎ ((result ≡ 4) × PutsFront (K.taken sink.old) (K.taken sink.new) usage_text) }
     ensures not_read { are_replay (map string_bytes words.now) ≡ false → source.new ≡ source.old }
+    ensures ended { result ≡ 0 → EndsAtOnce (S.gave source.old) (S.gave source.new) }
+    ensures read_once { (result ≡ 2) ⊎ (result ≡ 4)
+        → IsTrue (are_replay (map string_bytes words.now))
+        → ReadsOnce (S.left source.old) (S.gave source.old) (S.gave source.new) }
+    ensures too_long { result ≡ 2 → IsTrue (are_replay (map string_bytes words.now))
+        → EndsAtOnce (S.gave source.old) (S.gave source.new)
+        ⊎ (StopsPast (S.gave source.old) (S.gave source.new)
+        × Puts (K.taken sink.old) (K.taken sink.new) too_long_text) }
+    ensures read_some { result ≡ 3 → GivesSome (S.gave source.old) (S.gave source.new) }
+    ensures read_or_ended { result ≡ 5 → GivesSome (S.gave source.old) (S.gave source.new)
+        ⊎ EndsAtOnce (S.gave source.old) (S.gave source.new) }
+    ensures unfailed { result ≢ 3 → S.faults source.new ≡ S.faults source.old }
     ensures prefixes { IfSome (S.left source.old) (λ script.
         IssuesPrefixes (after_lines opening_state (line_texts script)).world) }
 {

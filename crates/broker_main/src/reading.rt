@@ -1,6 +1,7 @@
 // The script, read from its source.
 ghost use Rattle.std.specs.Prelude.{◌≡◌, ◌≤◌, [], length, Some, IfOk, OnOk, IfErr, IfSome, vec_len};
 ghost use Rattle.broker_main.specs.Outcome.{script_limit, StopsReading};
+ghost use Rattle.broker_main.specs.Takes.{EndsAtOnce, StopsOnce};
 ghost use Rattle.broker_main.specs.declared.reading.ReadStopped.TheVariants.{Memory, Source};
 
 use outside::{Failed, Source};
@@ -36,13 +37,18 @@ impl From<AllocError> for ReadStopped {
     }
 }
 
-/// Reads a source to its end, by pieces of up to 65,536 bytes. A source that gives more than 67,108,864 bytes is left
-/// once it has.
+/// Reads a source to its end, by pieces of up to 65,536 bytes, and takes nothing behind the end. A source that gives
+/// more than 67,108,864 bytes is left once it has.
 pub fn read_script<S: Source>(alloc: Global, source: &mut S) -> Result<Vec<u8>, ReadStopped>
     ensures all { IfOk result (λ bytes. IfSome (S.left source.old) (λ script. bytes.items ≡ script)) }
     ensures end { OnOk result (IfSome (S.left source.old) (λ _. S.left source.new ≡ Some [])) }
     ensures limit { IfOk result (λ bytes. length bytes.items ≤ script_limit) }
-    ensures stopped { IfErr result (λ why. StopsReading why (S.left source.old) (S.faults source.old) (S.faults source.new)) }
+    ensures once { OnOk result (EndsAtOnce (S.gave source.old) (S.gave source.new)) }
+    ensures unfailed { OnOk result (S.faults source.new ≡ S.faults source.old) }
+    ensures stopped { IfErr result (λ why.
+        StopsReading why (S.left source.old) (S.faults source.old) (S.faults source.new)) }
+    ensures stopped_once { IfErr result (λ why.
+        StopsOnce why (S.gave source.old) (S.gave source.new)) }
 {
     let mut piece = zeros(alloc, 65536)?;
     let mut bytes = Vec::new(alloc);

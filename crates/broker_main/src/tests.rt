@@ -1,7 +1,9 @@
 // Calls of the program on a source and a sink in memory.
 use crate::offline::run_offline;
+use crate::program::run_program;
 use outside::{VecSink, VecSource};
 use std::alloc::{AllocError, Global};
+use std::process::ExitCode;
 use std::test::Fail;
 
 // A client connects, with Session Expiry Interval 3600, and what it is answered.
@@ -125,6 +127,15 @@ fn a_source_that_fails_before_its_end_puts_nothing(rt: HostRuntime) -> Result<()
     Ok(())
 }
 
+// The first take gives the whole script and the second one nothing, so a third would fail.
+#[test]
+fn a_script_is_read_to_its_end_and_no_further(rt: HostRuntime) -> Result<(), Fail> {
+    let (status, text) = run(rt.alloc(), "replay", CONNECTS, &[3], &[])?;
+    assert_eq!(rt; status, 0);
+    assert_eq!(rt; text.as_slice(), CONNACK);
+    Ok(())
+}
+
 #[test]
 fn a_put_that_fails_leaves_the_front(rt: HostRuntime) -> Result<(), Fail> {
     let (status, text) = run(rt.alloc(), "replay", FIRST_PUBLISH, &[], &[2])?;
@@ -138,5 +149,33 @@ fn a_put_that_fails_is_told(rt: HostRuntime) -> Result<(), Fail> {
     let (status, text) = run(rt.alloc(), "replay", b"pump", &[], &[1])?;
     assert_eq!(rt; status, 4);
     assert_eq!(rt; text.as_slice(), b"".as_slice());
+    Ok(())
+}
+
+#[test]
+fn the_program_ends_with_the_status_of_its_call(rt: HostRuntime) -> Result<(), Fail> {
+    let alloc = rt.alloc();
+    let usage = b"usage: replay | load SEED COUNT | inspect DIR S W\n".as_slice();
+    let bad_line = b"line 2: not a script line\n".as_slice();
+    for (words, script, status, text) in [
+        ("replay", CONNECTS, 0, CONNACK),
+        ("replay", b"open 1\npong 1".as_slice(), 2, bad_line),
+        ("play", CONNECTS, 2, usage),
+    ] {
+        let words = words_of(alloc, words);
+        let (code, _, sink) = run_program(alloc, words, script, Vec::new(alloc));
+        assert_eq!(rt; code, ExitCode::from(status));
+        assert_eq!(rt; sink.into_inner().as_slice(), text);
+    }
+    Ok(())
+}
+
+#[test]
+fn words_that_are_refused_memory_end_the_program_with_5(rt: HostRuntime) -> Result<(), Fail> {
+    let alloc = rt.alloc();
+    let words: Result<Vec<String>, AllocError> = Err(AllocError);
+    let (code, _, sink) = run_program(alloc, words, CONNECTS, Vec::new(alloc));
+    assert_eq!(rt; code, ExitCode::from(5));
+    assert_eq!(rt; sink.into_inner().as_slice(), b"".as_slice());
     Ok(())
 }

@@ -1,4 +1,5 @@
--- Every run issues prefixes.
+-- Every run issues prefixes, and the text about a script that is too long tells how it was read.
+use Rattle.std.proofs.Common.{inr}
 use Rattle.world_terms.specs.Script.{line_texts}
 use Rattle.broker_main.proofs.TextLemmas.{if_told}
 use Rattle.broker_main.proofs.offline.run_offline.Goals as goal
@@ -17,3 +18,8 @@ returns-in-Err-Source-clause-prefixes g c = if_told _ _ (λ script. c.every_run_
 
 pub returns-in-Err-Memory-clause-prefixes : goal.returns-in-Err-Memory-clause-prefixes
 returns-in-Err-Memory-clause-prefixes g c = if_told _ _ (λ script. c.every_run_issues_prefixes.ensures (line_texts script))
+
+pub returns-in-Err-TooLong-clause-too_long : goal.returns-in-Err-TooLong-clause-too_long
+returns-in-Err-TooLong-clause-too_long g c two replay =
+    let stops = rw c.in-Err-TooLong.field-0-is at c.in-Err-TooLong.ensures.stopped_once in
+    inr (stops, (c.refuse-in-Err-TooLong.ensures.ends.refused two).1)
