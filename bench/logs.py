@@ -4,9 +4,10 @@
 Run at the top of the repository: python3 bench/logs.py [N]
 It builds the program where it is missing, and prints the ratio of N to 2N commits, of mounting N to 2N records, and of
 reading the first to the last of N records. It ends with 1 where one of them is above 2.5. With no N the commits are as
-many, of 50, 100, 200 and so on, as take less than a third of a second, and those before mounting and reading as many as
-take less than a three-hundredth, so that what is timed stands out. Times are processor time. What is compared is run in
-turn, five times, and the least time of each counts.
+many, of 50, 100, 200 and so on, as take less than a third of a second, so that what is timed stands out, and 1000 are
+made before mounting and reading: what a mount of 2000 reads stays in a processor's caches, and the ratio tells of the
+program and not of them. Times are processor time. What is compared is run in turn, five times, and the least time of
+each counts.
 """
 import os
 import subprocess
@@ -15,6 +16,7 @@ import sys
 CRATE = os.path.join("crates", "log_bench")
 PROGRAM = os.path.join(CRATE, "out", "log_bench")
 MOST = 1000000
+FEW = 1000
 
 
 def build():
@@ -65,7 +67,7 @@ def commits(asked):
 
 
 def mounting(asked):
-    count = asked or count_to_take(1 / 300)
+    count = asked or FEW
     mounts = mounts_to_take(count)
     calls = [("mounts", records, times) for records in (count, 2 * count) for times in (mounts, 0)]
     first, alone, second, second_alone = least(*calls)
@@ -73,7 +75,7 @@ def mounting(asked):
 
 
 def reading(asked):
-    count = asked or count_to_take(1 / 300)
+    count = asked or FEW
     calls = [("entries", count, entry, times) for entry in (0, count - 1) for times in (MOST, 0)]
     first, alone, last, last_alone = least(*calls)
     return ratio(f"{MOST} readings of the first and of the last of {count} records", first - alone, last - last_alone)
