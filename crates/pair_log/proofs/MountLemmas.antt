@@ -9,22 +9,26 @@ use Rattle.gated_log.specs.PlainLog.{AtRest, HasList, end_of}
 use Rattle.gated_log.specs.Records.{body_bytes, records}
 use Rattle.pair_log.specs.Mounted.{IsBeginning, IsBegun, IsMountTorn, IsMounting, IsWrittenTorn, begun, first_record, mounted_first, side_of, written_first}
 
--- the images of the first disk, and of the second
-pub first_mounting : (old mid new : DiskState) (first second : List (List ℕ)) (snapshot : List ℕ) → LeavesOnly old mid (λ image. old.may_leave image ⊎ (records image ≡ first))
-    → LeavesOnly mid new (IsBegun first second snapshot) → (image : List ℕ) → new.left_since old.calls image → IsBeginning old.may_leave first second snapshot image
-first_mounting old mid new first second snapshot mounted begun image left =
-    (leaves_only_and old mid new (IsBeginning old.may_leave first second snapshot) (IsBegun first second snapshot)
-    (leaves_only_weaker old mid (λ image. old.may_leave image ⊎ (records image ≡ first)) (IsBeginning old.may_leave first second snapshot) mounted beginning)
-    begun (λ image h. inr h)).each image left
+-- the images of the first disk, where it was mounted and where it was begun then, and of the second
+pub first_mounted : (old mid : DiskState) (first second : List (List ℕ)) (snapshot : List ℕ) → LeavesOnly old mid (λ image. old.may_leave image ⊎ (records image ≡ first))
+    → LeavesOnly old mid (IsBeginning old.may_leave first second snapshot)
+first_mounted old mid first second snapshot mounted =
+    leaves_only_weaker old mid (λ image. old.may_leave image ⊎ (records image ≡ first)) (IsBeginning old.may_leave first second snapshot) mounted beginning
   where
     beginning : (image : List ℕ) → old.may_leave image ⊎ (records image ≡ first) → IsBeginning old.may_leave first second snapshot image
     beginning image (inl left) = inl left
     beginning image (inr same) = inr (inl same)
 
+pub first_mounting : (old mid new : DiskState) (first second : List (List ℕ)) (snapshot : List ℕ) → LeavesOnly old mid (λ image. old.may_leave image ⊎ (records image ≡ first))
+    → LeavesOnly mid new (IsBegun first second snapshot) → LeavesOnly old new (IsBeginning old.may_leave first second snapshot)
+first_mounting old mid new first second snapshot mounted begun =
+    leaves_only_and old mid new (IsBeginning old.may_leave first second snapshot) (IsBegun first second snapshot)
+    (first_mounted old mid first second snapshot mounted) begun (λ image h. inr h)
+
 pub second_mounting : (old mid new : DiskState) (list : List (List ℕ)) → LeavesOnly old mid (λ image. old.may_leave image ⊎ (records image ≡ list))
-    → LeavesOnly mid new (HasList AtRest list) → (image : List ℕ) → new.left_since old.calls image → IsMounting old.may_leave list image
-second_mounting old mid new list mounted read image left =
-    (leaves_only_and old mid new (IsMounting old.may_leave list) (HasList AtRest list) mounted read (λ image same. inr same)).each image left
+    → LeavesOnly mid new (HasList AtRest list) → LeavesOnly old new (IsMounting old.may_leave list)
+second_mounting old mid new list mounted read =
+    leaves_only_and old mid new (IsMounting old.may_leave list) (HasList AtRest list) mounted read (λ image same. inr same)
 
 -- which disk counts then
 pub begun_side : (snapshot : List ℕ) (first second : List (List ℕ)) → side_of (begun snapshot first second) second ≡ side_of first second

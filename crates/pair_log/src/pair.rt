@@ -5,14 +5,14 @@ ghost use Rattle.outside.specs.DiskModel.{IsArmed, LeavesOnly, Runs, Torn, Write
 ghost use Rattle.gated_log.specs.declared.refused.LogRefused.TheVariants.{Fault, Full, Memory};
 ghost use Rattle.gated_log.specs.declared.settled.Settled.TheVariants.{In, Out};
 ghost use Rattle.gated_log.specs.Blame.{IsBlamed};
-ghost use Rattle.gated_log.specs.Calls.{ImagesHave, IsMounting, with_record};
+ghost use Rattle.gated_log.specs.Calls.{ImagesHave, with_record};
 ghost use Rattle.gated_log.specs.Closing.{IsGateTorn, WithGate, closing_calls};
 ghost use Rattle.gated_log.specs.PlainLog.{AllHave, AtRest, InDoubt, Lost, doubted_length, end_of};
 ghost use Rattle.gated_log.specs.Records.{records};
 ghost use Rattle.pair_log.specs.declared.doubt.Doubt.TheVariants.{Commit, Nothing, Restart, Rewrite};
 ghost use Rattle.pair_log.specs.declared.side.Side.TheVariants.{First, Second};
 ghost use Rattle.pair_log.specs.Epochs.{active_records, next_epoch, read_pair, snapshot_of};
-ghost use Rattle.pair_log.specs.Mounted.{HasNone, IsBlamedOn, IsMountTorn, IsTooLong, MountKeeps, epoch_in, mounted_first, or_first, side_of};
+ghost use Rattle.pair_log.specs.Mounted.{HasNone, IsBeginning, IsBlamedOn, IsMountTorn, IsMounting, IsTooLong, MountKeeps, epoch_in, mounted_first, or_first, side_of};
 ghost use Rattle.pair_log.specs.PlainPair.{AllOlder, EachMoment, HasEither, IsEither, IsNewOrOlder, Told, after_doubt, both_disks, doubted_log, first_disk, first_limit, head_of, second_disk, second_limit, tail_of};
 ghost use Rattle.pair_log.specs.Settling.{IsSettledIn, IsSettledOut, IsUnsettled, disk_on, doubted_side};
 ghost use Rattle.pair_log.specs.Sides.{first_of, number_of, other_side, second_of};
@@ -203,6 +203,14 @@ impl<D: Disk> PairLog<D> {
         ensures blame { IfErr result (λ refused. (side : _) × (refused.2 ≡ number_of side)
             × IsBlamedOn side refused.3 (D.state first).faults (D.state second).faults
             (D.state refused.0).faults (D.state refused.1).faults) }
+        ensures first_moments { IfErr result
+            (λ refused. IsTrue (D.state first).tells → IsTrue (D.state second).tells
+            → LeavesOnly (D.state first) (D.state refused.0)
+            (IsBeginning (D.state first).may_leave
+            (records (D.state first).seen) (records (D.state second).seen) snapshot.now)) }
+        ensures second_moments { IfErr result (λ refused. IsTrue (D.state second).tells
+            → LeavesOnly (D.state second) (D.state refused.1)
+            (IsMounting (D.state second).may_leave (records (D.state second).seen))) }
         ensures first_torn { IfErr result
             (λ refused. IsTrue (D.state first).tells → IsTrue (D.state second).tells
             → IsMountTorn snapshot.now

@@ -40,9 +40,9 @@ returns-in-Ok-find_epochs-clause-any_moment g c = λ first_told second_told.
     keeps_step (WithinBoth state) (AreMounting (state c.args.first) (state c.args.second) s) [] (c.args.first, c.args.second) c.of_logs.result.past (both_disks c.of_logs.result)
     (c.of_logs.ensures.past ∙ (c.and_both-past.ensures ∙ ap (λ l. l ++ (c.args.first, c.args.second) ∷ []) c.new.ensures))
     (λ images left. (
-      first_mounting (state c.args.first) (state c.in-Ok.log.disk) (state c.find_epochs.new.first.disk) _ _ s (c.in-Ok.ensures.mounting.moments first_told) begins images.0
+      (first_mounting (state c.args.first) (state c.in-Ok.log.disk) (state c.find_epochs.new.first.disk) _ _ s (c.in-Ok.ensures.mounting.moments first_told) begins).each images.0
           (subst (λ d. (state d).left_since (state c.args.first).calls images.0) c.of_logs.ensures.first left.0),
-      second_mounting (state c.args.second) (state c.in-Ok-mount.log.disk) (state c.find_epochs.new.second.disk) _ (c.in-Ok-mount.ensures.mounting.moments second_told) reads images.1
+      (second_mounting (state c.args.second) (state c.in-Ok-mount.log.disk) (state c.find_epochs.new.second.disk) _ (c.in-Ok-mount.ensures.mounting.moments second_told) reads).each images.1
           (subst (λ d. (state d).left_since (state c.args.second).calls images.1) c.of_logs.ensures.second left.1),
     ))
 
