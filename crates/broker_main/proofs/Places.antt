@@ -5,10 +5,10 @@ use Rattle.std.specs.List.{find}
 use Rattle.std.specs.Str.{bytes_eq}
 use Rattle.std.proofs.lemmas.Bool.{ne_eqb}
 use Rattle.std.proofs.lemmas.Slice.Eq.{bytes_eq-Decides}
-use Rattle.session_terms.specs.PlainSession.{PlainSession}
-use Rattle.session_terms.specs.Change.{session_of, on_session, act_all, parted_session}
-use Rattle.session_core.specs.PlainConnection.{PlainConnection}
-use Rattle.world_terms.specs.Move.{change_connection, owed_by}
+use Rattle.first_session_terms.specs.PlainSession.{PlainSession}
+use Rattle.first_session_terms.specs.Change.{session_of, on_session, act_all, parted_session}
+use Rattle.first_session_core.specs.PlainConnection.{PlainConnection}
+use Rattle.first_world_terms.specs.Move.{change_connection, owed_by}
 use Rattle.broker_main.specs.BrokerView.{IsSessionPlace, IsConnectionPlace}
 
 -- the first place that passes a test is where the first element that passes it is found

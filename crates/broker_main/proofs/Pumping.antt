@@ -1,14 +1,14 @@
 -- A pump that issues something.
 use Rattle.std.proofs.Common.{◌≡◌, ℕ, List, [], ◌∷◌, Option, Some, sym, ap, ap₂, subst, ◌∙◌}
 use Rattle.std.specs.Prelude.{slice_get, slice_set, IfSome}
-use Rattle.session_terms.specs.PlainSession.{PlainSession}
-use Rattle.session_terms.specs.Change.{on_session, issued_session}
-use Rattle.session_core.specs.PlainConnection.{PlainConnection}
-use Rattle.session_core.specs.Pump.{Issue, pump_of, pumped_connection}
-use Rattle.session_core.specs.declared.issued.Issued.{Issued}
-use Rattle.session_core.specs.IssuedView.{issue_of_fields}
-use Rattle.world_terms.specs.Move.{connection_at, change_connection}
-use Rattle.world_terms.specs.PlainBroker.{PlainBroker, pumped, issued, session_on, list_with}
+use Rattle.first_session_terms.specs.PlainSession.{PlainSession}
+use Rattle.first_session_terms.specs.Change.{on_session, issued_session}
+use Rattle.first_session_core.specs.PlainConnection.{PlainConnection}
+use Rattle.first_session_core.specs.Pump.{Issue, pump_of, pumped_connection}
+use Rattle.first_session_core.specs.declared.issued.Issued.{Issued}
+use Rattle.first_session_core.specs.IssuedView.{issue_of_fields}
+use Rattle.first_world_terms.specs.Move.{connection_at, change_connection}
+use Rattle.first_world_terms.specs.PlainBroker.{PlainBroker, pumped, issued, session_on, list_with}
 use Rattle.broker_main.specs.BrokerView.{IsConnectionPlace, IsWrittenAt}
 
 -- what the pump of this connection does, as its connection, session and issue are found

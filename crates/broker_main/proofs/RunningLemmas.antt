@@ -1,9 +1,9 @@
 -- What was put of a text so far.
 use Rattle.std.proofs.Common.{ℕ, ◌≡◌, List, [], ◌∷◌, ◌++◌, Option, Some, None, arith, refl, sym, subst, ap, ◌∙◌, append_assoc, append-nil}
-use Rattle.world_terms.specs.PlainBroker.{PlainBroker, plain_step, plain_text}
-use Rattle.world_terms.specs.Run.{line_or_nothing}
-use Rattle.world_terms.specs.Script.{line_of, line_texts}
-use Rattle.world_terms.specs.Text.{text_of_outs}
+use Rattle.first_world_terms.specs.PlainBroker.{PlainBroker, plain_step, plain_text}
+use Rattle.first_world_terms.specs.Run.{line_or_nothing}
+use Rattle.first_world_terms.specs.Script.{line_of, line_texts}
+use Rattle.first_world_terms.specs.Text.{text_of_outs}
 use Rattle.outside.specs.Sink.{Puts, PutsFront, puts_then, puts_front_first, puts_front_then}
 
 -- a front of the whole was put, and the rest is still to put

@@ -1,12 +1,12 @@
 -- A message at the end of the list.
 use Rattle.std.proofs.Common.{◌≡◌, ℕ, ◌+◌, ◌&&◌, Bool, true, false, cond, eqb, List, [], ◌∷◌, ◌++◌, length, None, refl, ap, ◌∙◌, arith}
-use Rattle.topic_name.specs.Pieces.{levels_of}
-use Rattle.topic_name.specs.StoredMessage.{StoredMessage}
-use Rattle.shard_terms.specs.ShardList.{Awaited, store, Store}
-use Rattle.session_terms.specs.PlainSession.{PlainSession}
-use Rattle.session_core.specs.SessionView.{HasOffsets}
-use Rattle.session_core.specs.SessionStep.{published}
-use Rattle.world_terms.specs.PlainBroker.{list_with}
+use Rattle.first_topic_name.specs.Pieces.{levels_of}
+use Rattle.first_topic_name.specs.StoredMessage.{StoredMessage}
+use Rattle.first_shard_terms.specs.ShardList.{Awaited, store, Store}
+use Rattle.first_session_terms.specs.PlainSession.{PlainSession}
+use Rattle.first_session_core.specs.SessionView.{HasOffsets}
+use Rattle.first_session_core.specs.SessionStep.{published}
+use Rattle.first_world_terms.specs.PlainBroker.{list_with}
 
 -- the message of a publish at this place
 abbrev pub message_at : ℕ → PlainSession → ℕ → List ℕ → List ℕ → StoredMessage

@@ -1,14 +1,14 @@
 -- A SUBSCRIBE of one filter.
 use Rattle.std.proofs.Common.{◌≡◌, ℕ, ◌+◌, List, [], ◌∷◌, length, get_or, Option, Some, None, sym, ap, ◌∙◌, arith}
 use Rattle.std.specs.Prelude.{slice_get, slice_set, IfSome}
-use Rattle.topic_name.specs.Pieces.{levels_of}
-use Rattle.session_terms.specs.PlainSession.{PlainSession}
-use Rattle.session_terms.specs.Change.{on_session, subscribed_session}
-use Rattle.mqtt_packet.specs.declared.packet.Wish.{Wish}
-use Rattle.mqtt_packet.specs.declared.packet.Packet.TheVariants.{Subscribe}
-use Rattle.session_core.specs.SessionStep.{granted}
-use Rattle.session_core.specs.SessionView.{sweep_of}
-use Rattle.world_terms.specs.PlainBroker.{PlainBroker, taken}
+use Rattle.first_topic_name.specs.Pieces.{levels_of}
+use Rattle.first_session_terms.specs.PlainSession.{PlainSession}
+use Rattle.first_session_terms.specs.Change.{on_session, subscribed_session}
+use Rattle.first_mqtt_packet.specs.declared.packet.Wish.{Wish}
+use Rattle.first_mqtt_packet.specs.declared.packet.Packet.TheVariants.{Subscribe}
+use Rattle.first_session_core.specs.SessionStep.{granted}
+use Rattle.first_session_core.specs.SessionView.{sweep_of}
+use Rattle.first_world_terms.specs.PlainBroker.{PlainBroker, taken}
 use Rattle.broker_main.specs.BrokerView.{IsWrittenAt}
 
 -- a list of one element

@@ -1,12 +1,12 @@
 -- What the broker's steps are made of, over its lists.
 use Rattle.std.specs.Prelude.{ℕ, ◌≡◌, false, List, slice_get, slice_set, Some, None, IfSome}
-use Rattle.session_terms.specs.PlainSession.{PlainSession}
-use Rattle.session_terms.specs.Change.{session_of, on_session}
-use Rattle.session_core.specs.PlainConnection.{PlainConnection}
-use Rattle.mqtt_packet.specs.declared.props.Prop.{Prop}
-use Rattle.mqtt_packet.specs.declared.packet.Packet.TheVariants.{Connect}
-use Rattle.world_terms.specs.PlainBroker.{PlainBroker, Step, first_packet}
-use Rattle.world_terms.specs.Move.{connection_at, change_connection}
+use Rattle.first_session_terms.specs.PlainSession.{PlainSession}
+use Rattle.first_session_terms.specs.Change.{session_of, on_session}
+use Rattle.first_session_core.specs.PlainConnection.{PlainConnection}
+use Rattle.first_mqtt_packet.specs.declared.props.Prop.{Prop}
+use Rattle.first_mqtt_packet.specs.declared.packet.Packet.TheVariants.{Connect}
+use Rattle.first_world_terms.specs.PlainBroker.{PlainBroker, Step, first_packet}
+use Rattle.first_world_terms.specs.Move.{connection_at, change_connection}
 
 -- the session at this place is that of the client: it is what a look-up finds, and a change of it is a write there
 pub record IsSessionPlace (sessions : List PlainSession) (client : List ℕ) (place : ℕ) : Type 0 where

@@ -2,8 +2,8 @@
 use Rattle.std.specs.Prelude.{ℕ, ◌<◌, ◌≡◌, Bool, false, nat_lt, if◌then◌else◌, List, [], ◌∷◌, ◌++◌, codes, length, ◌⊎◌, Option, Some, None, ⊤, IsSome, IsSomeAnd, IsTrue, IfSome, refl}
 use Rattle.std.specs.Fmt.{decimal, digits}
 use Rattle.std.specs.Str.{bytes_eq}
-use Rattle.world_terms.specs.Script.{line_texts, first_bad_line}
-use Rattle.world_terms.specs.Run.{text_of_script}
+use Rattle.first_world_terms.specs.Script.{line_texts, first_bad_line}
+use Rattle.first_world_terms.specs.Run.{text_of_script}
 use Rattle.outside.specs.Cause.{Rose}
 use Rattle.outside.specs.Sink.{Puts, PutsFront}
 use Rattle.broker_main.specs.declared.reading.ReadStopped.{ReadStopped}

@@ -1,29 +1,30 @@
 ghost use Rattle.std.specs.Prelude.{◌≡◌, ◌++◌, ◌∷◌, ◌<◌, ◌≤◌, ◌+◌, [], length, slice_get, slice_set, is_some, filter, not, ◌==◌, map, Some, None, IsTrue, OnOk, IfOk, IfSome, false};
-ghost use Rattle.session_core.specs.SessionView.{HasOffsets, sweep_of};
-ghost use Rattle.mqtt_packet.specs.Spells.{IsBuilt};
-ghost use Rattle.mqtt_packet.specs.Reading.{packet_of};
-ghost use Rattle.session_terms.specs.Change.{act_all, session_of, subscribed_session, issued_session};
-ghost use Rattle.session_core.specs.PlainConnection.{PlainConnection};
-ghost use Rattle.session_core.specs.Pump.{pumped_connection};
-ghost use Rattle.session_core.specs.IssuedView.{issue_of_fields};
-ghost use Rattle.world_terms.specs.Move.{connection_at, without_connection, owed_by, connack, Sent, sent_on};
-ghost use Rattle.world_terms.specs.Turn.{waits};
-ghost use Rattle.world_terms.specs.Text.{text_of_outs};
-ghost use Rattle.world_terms.specs.PlainBroker.{PlainBroker, empty_broker, plain_step, opened, sent, sent_bound, first_packet, turned_away, refused, bound_packet, taken, pumped, ended, session_on, without, list_with};
-ghost use Rattle.session_terms.specs.PlainSession.{PlainSession};
-ghost use Rattle.session_core.specs.SessionStep.{published, granted, refusal_of};
-ghost use Rattle.shard_terms.specs.ShardList.{store, Store};
-ghost use Rattle.mqtt_packet.specs.declared.packet.Packet.TheVariants.{Puback, Subscribe, Suback};
+ghost use Rattle.first_session_core.specs.SessionView.{HasOffsets, sweep_of};
+ghost use Rattle.first_mqtt_packet.specs.Spells.{IsBuilt};
+ghost use Rattle.first_mqtt_packet.specs.Reading.{packet_of};
+ghost use Rattle.first_session_terms.specs.Change.{act_all, session_of, subscribed_session, issued_session};
+ghost use Rattle.first_session_core.specs.PlainConnection.{PlainConnection};
+ghost use Rattle.first_session_core.specs.Pump.{pumped_connection};
+ghost use Rattle.first_session_core.specs.IssuedView.{issue_of_fields};
+ghost use Rattle.first_world_terms.specs.Move.{connection_at, without_connection, owed_by, connack, Sent, sent_on};
+ghost use Rattle.first_world_terms.specs.Turn.{waits};
+ghost use Rattle.first_world_terms.specs.Text.{text_of_outs};
+ghost use Rattle.first_world_terms.specs.PlainBroker.{PlainBroker, empty_broker, plain_step, opened, sent, sent_bound, first_packet, turned_away, refused, bound_packet, taken, pumped, ended, session_on, without, list_with};
+ghost use Rattle.first_session_terms.specs.PlainSession.{PlainSession};
+ghost use Rattle.first_session_core.specs.SessionStep.{published, granted, refusal_of};
+ghost use Rattle.first_shard_terms.specs.ShardList.{store, Store};
+ghost use Rattle.first_mqtt_packet.specs.declared.packet.Packet.TheVariants.{Puback, Subscribe, Suback};
 ghost use Rattle.script_lines.specs.LineView.{line_of_fields};
 ghost use Rattle.broker_main.specs.BrokerView.{IsSessionPlace, IsConnectionPlace, IsWrittenAt, connected};
 
 use crate::finding::{place_of_connection, place_of_session};
-use mqtt_packet::{Packet, Prop, Props, ReadRefused, Wish, Wishes, read};
+use first_mqtt_packet::{Packet, Prop, Props, ReadRefused, Wish, Wishes, read};
+use first_session_core::{Connection, Issued, Session, four_in, pump, refusal};
+use first_topic_name::{Filter, Message, Topic};
 use script_lines::{Line, put_closed, put_sent};
-use session_core::{Connection, Issued, Session, four_in, pump, refusal};
 use std::alloc::{AllocError, Global};
 use std::marker::Model;
-use topic_name::{Blob, Filter, Message, Name, Topic};
+use topic_name::{Blob, Name};
 
 /// All that a broker in memory keeps: the one shard's messages, the one worker's sessions in order of creation, the bound
 /// connections, and the numbers of those that are open and not bound yet. Contracts see a `PlainBroker`.
@@ -36,8 +37,8 @@ pub struct Broker {
 }
 
 impl Model for Broker {
-    ghost use Rattle.session_core.specs.SessionView.{HasOffsets};
-    ghost use Rattle.world_terms.specs.PlainBroker.{PlainBroker};
+    ghost use Rattle.first_session_core.specs.SessionView.{HasOffsets};
+    ghost use Rattle.first_world_terms.specs.PlainBroker.{PlainBroker};
 
     ghost Value = { PlainBroker };
 

@@ -1,7 +1,7 @@
 ghost use Rattle.std.specs.Prelude.{◌≤◌, length};
 ghost use Rattle.broker_main.specs.BrokerView.{IsSessionPlace, IsConnectionPlace};
 
-use session_core::{Connection, Session};
+use first_session_core::{Connection, Session};
 use topic_name::Name;
 
 /// Where the connection with this number stands; the length where there is none.

@@ -2,19 +2,19 @@
 ghost use Rattle.std.specs.Prelude.{◌≡◌, ◌≢◌, ◌⊎◌, ◌≤◌, length, [], map, false, None, Some, IfSome, IsSomeAnd, IsTrue, string_bytes};
 ghost use Rattle.outside.specs.Cause.{Rose};
 ghost use Rattle.outside.specs.Sink.{Puts, PutsFront};
-ghost use Rattle.world_terms.specs.Laws.{IssuesPrefixes};
-ghost use Rattle.world_terms.specs.Run.{after_lines, text_of_script};
-ghost use Rattle.world_terms.specs.Script.{line_texts};
-ghost use Rattle.world_terms.specs.Turn.{opening_state};
+ghost use Rattle.first_world_terms.specs.Laws.{IssuesPrefixes};
+ghost use Rattle.first_world_terms.specs.Run.{after_lines, text_of_script};
+ghost use Rattle.first_world_terms.specs.Script.{line_texts};
+ghost use Rattle.first_world_terms.specs.Turn.{opening_state};
 ghost use Rattle.broker_main.specs.Outcome.{Ends, are_replay, bad_line_text, refusal_of_script, refusal_text, script_limit, text_or_run, too_long_text, usage_text, whole_text};
 ghost use Rattle.broker_main.specs.Takes.{EndsAtOnce, GivesSome, ReadsOnce, StopsPast};
 
 use crate::reading::{ReadStopped, read_script};
 use crate::running::{RunStopped, run_lines};
+use first_world_terms::{every_run_issues_prefixes, plain_runs_are_runs};
 use outside::{Sink, Source};
 use script_lines::first_bad;
 use std::alloc::Global;
-use world_terms::{every_run_issues_prefixes, plain_runs_are_runs};
 
 // The number that a call ends with.
 const DONE: u8 = 0;

@@ -2,18 +2,18 @@
 ghost use Rattle.std.specs.Prelude.{◌≡◌, ◌≤◌, OnOk, OnErr, IfErr};
 ghost use Rattle.outside.specs.Cause.{HasCause};
 ghost use Rattle.outside.specs.Sink.{Puts, PutsFront};
-ghost use Rattle.world_terms.specs.PlainBroker.{empty_broker, plain_step, plain_text};
-ghost use Rattle.world_terms.specs.Run.{line_or_nothing};
-ghost use Rattle.world_terms.specs.Script.{line_of, line_texts};
-ghost use Rattle.world_terms.specs.Text.{text_of_outs};
+ghost use Rattle.first_world_terms.specs.PlainBroker.{empty_broker, plain_step, plain_text};
+ghost use Rattle.first_world_terms.specs.Run.{line_or_nothing};
+ghost use Rattle.first_world_terms.specs.Script.{line_of, line_texts};
+ghost use Rattle.first_world_terms.specs.Text.{text_of_outs};
 ghost use Rattle.broker_main.specs.Outcome.{StopsRun};
 ghost use Rattle.broker_main.specs.declared.running.RunStopped.TheVariants.{Memory, Sink};
 
 use crate::broker::Broker;
+use first_topic_name::first_piece;
 use outside::{Failed, Sink};
 use script_lines::{Line, read_line};
 use std::alloc::{AllocError, Global};
-use topic_name::first_piece;
 
 /// Why a run stopped before its end.
 #[derive(Clone, Copy, Debug, PartialEq, Eq)]

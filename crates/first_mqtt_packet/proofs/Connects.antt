@@ -7,14 +7,14 @@ use Rattle.std.proofs.lemmas.List.{append-nil, length-drop}
 use Rattle.std.proofs.lemmas.Nat.{from_be_bytes-to_be_bytes_2, from_be_bytes-to_be_bytes_4}
 use Rattle.std.proofs.lemmas.Option.{cond_some}
 use Rattle.std.proofs.lemmas.Slice.Eq.{bytes_eq-Decides}
-use Rattle.mqtt_packet.specs.declared.props.Prop.TheVariants.{Four}
-use Rattle.mqtt_packet.specs.declared.packet.Packet.{Packet}
-use Rattle.mqtt_packet.specs.declared.packet.Packet.TheVariants.{Connect}
-use Rattle.mqtt_packet.specs.Written.{written, framed}
-use Rattle.mqtt_packet.specs.Reading.{two_at, four_at, is_connect, is_connect_front, is_plain_client, connect_in}
-use Rattle.mqtt_packet.specs.Spells.{IsBuilt, connects}
-use Rattle.mqtt_packet.proofs.Texts.{client_short}
-use Rattle.mqtt_packet.proofs.Fields.{IsBytes, cut, two_back, four_back, two_below, four_below}
+use Rattle.first_mqtt_packet.specs.declared.props.Prop.TheVariants.{Four}
+use Rattle.first_mqtt_packet.specs.declared.packet.Packet.{Packet}
+use Rattle.first_mqtt_packet.specs.declared.packet.Packet.TheVariants.{Connect}
+use Rattle.first_mqtt_packet.specs.Written.{written, framed}
+use Rattle.first_mqtt_packet.specs.Reading.{two_at, four_at, is_connect, is_connect_front, is_plain_client, connect_in}
+use Rattle.first_mqtt_packet.specs.Spells.{IsBuilt, connects}
+use Rattle.first_mqtt_packet.proofs.Texts.{client_short}
+use Rattle.first_mqtt_packet.proofs.Fields.{IsBytes, cut, two_back, four_back, two_below, four_below}
 
 abbrev pub head : List ℕ
 head = 0 ∷ 4 ∷ 77 ∷ 81 ∷ 84 ∷ 84 ∷ 5 ∷ 0 ∷ []

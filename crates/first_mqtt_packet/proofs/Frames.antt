@@ -6,9 +6,9 @@ use Rattle.std.proofs.lemmas.Bool.Decides.{nat_tests}
 use Rattle.std.proofs.lemmas.List.{take_at, drop_at, take-append-drop, length-append, length-drop}
 use Rattle.std.proofs.lemmas.Option.{cond_some}
 use Rattle.std.proofs.lemmas.Slice.Eq.{bytes_eq-Decides}
-use Rattle.mqtt_packet.specs.Written.{var_bytes}
-use Rattle.mqtt_packet.specs.Reading.{is_length, length_size, body_after}
-use Rattle.mqtt_packet.proofs.Fields.{IsBytes, IsBytes-drop}
+use Rattle.first_mqtt_packet.specs.Written.{var_bytes}
+use Rattle.first_mqtt_packet.specs.Reading.{is_length, length_size, body_after}
+use Rattle.first_mqtt_packet.proofs.Fields.{IsBytes, IsBytes-drop}
 
 pub length-var_bytes : (n : ℕ) → length (var_bytes n) ≤ 4
 length-var_bytes n = grind (arith, nat_tests)

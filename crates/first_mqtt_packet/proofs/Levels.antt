@@ -2,7 +2,7 @@
 use Rattle.std.proofs.Common.{◌≡◌, ℕ, ◌+◌, ◌<◌, true, false, cond, eqb, List, [], ◌∷◌, length, refl, arith, ◌∙◌}
 use Rattle.std.specs.List.{count_by}
 use Rattle.std.proofs.lemmas.List.Sums.{sum_by-cons}
-use Rattle.topic_name.specs.Pieces.{pieces, onto_first}
+use Rattle.first_topic_name.specs.Pieces.{pieces, onto_first}
 
 length-onto_first : (x : ℕ) (ps : List (List ℕ)) → 0 < length ps → length (onto_first x ps) ≡ length ps
 length-onto_first x [] some = absurd (omega arith)

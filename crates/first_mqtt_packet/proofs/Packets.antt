@@ -5,18 +5,18 @@ use Rattle.std.specs.Option.{option_and_then}
 use Rattle.std.proofs.lemmas.Bool.{eqb-true}
 use Rattle.std.proofs.lemmas.List.{length-append}
 use Rattle.std.proofs.lemmas.Option.{option_and_then_some}
-use Rattle.mqtt_packet.specs.declared.props.Prop.TheVariants.{Four}
-use Rattle.mqtt_packet.specs.declared.packet.Packet.{Packet}
-use Rattle.mqtt_packet.specs.declared.packet.Packet.TheVariants.{Connect, Publish, Subscribe}
-use Rattle.mqtt_packet.specs.declared.refused.ReadRefused.{ReadRefused}
-use Rattle.mqtt_packet.specs.Written.{written, framed, var_bytes}
-use Rattle.mqtt_packet.specs.Reading.{packet_of, packet_in, connect_in, subscribe_in, publish_in, body_after, Gives}
-use Rattle.mqtt_packet.specs.Spells.{IsBuilt, connects, subscribes, publishes, Spells}
-use Rattle.mqtt_packet.proofs.Fields.{IsBytes}
-use Rattle.mqtt_packet.proofs.Frames.{length-var_bytes, body_found, body_fits, body_again, body_below}
-use Rattle.mqtt_packet.proofs.Connects.{connect_body, connect_written, connect_found, connect_again}
-use Rattle.mqtt_packet.proofs.Subscribes.{subscribe_body, subscribe_written, subscribe_found, subscribe_again, wished}
-use Rattle.mqtt_packet.proofs.Publishes.{publish_body, publish_written, publish_found, publish_again}
+use Rattle.first_mqtt_packet.specs.declared.props.Prop.TheVariants.{Four}
+use Rattle.first_mqtt_packet.specs.declared.packet.Packet.{Packet}
+use Rattle.first_mqtt_packet.specs.declared.packet.Packet.TheVariants.{Connect, Publish, Subscribe}
+use Rattle.first_mqtt_packet.specs.declared.refused.ReadRefused.{ReadRefused}
+use Rattle.first_mqtt_packet.specs.Written.{written, framed, var_bytes}
+use Rattle.first_mqtt_packet.specs.Reading.{packet_of, packet_in, connect_in, subscribe_in, publish_in, body_after, Gives}
+use Rattle.first_mqtt_packet.specs.Spells.{IsBuilt, connects, subscribes, publishes, Spells}
+use Rattle.first_mqtt_packet.proofs.Fields.{IsBytes}
+use Rattle.first_mqtt_packet.proofs.Frames.{length-var_bytes, body_found, body_fits, body_again, body_below}
+use Rattle.first_mqtt_packet.proofs.Connects.{connect_body, connect_written, connect_found, connect_again}
+use Rattle.first_mqtt_packet.proofs.Subscribes.{subscribe_body, subscribe_written, subscribe_found, subscribe_again, wished}
+use Rattle.first_mqtt_packet.proofs.Publishes.{publish_body, publish_written, publish_found, publish_again}
 
 chosen : {A : Type 0} (b : Bool) (x y z : A) → cond b x y ≡ z → ((b ≡ true) × (x ≡ z)) ⊎ ((b ≡ false) × (y ≡ z))
 chosen true x y z e = inl (refl, e)

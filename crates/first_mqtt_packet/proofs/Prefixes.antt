@@ -3,12 +3,12 @@ use Rattle.std.proofs.Common.{◌≡◌, ℕ, ◌+◌, ◌-◌, ◌*◌, ◌/◌
 use Rattle.std.proofs.lemmas.Bool.{cases_lt, lt-ltb, le-ltb}
 use Rattle.std.proofs.lemmas.List.{append_cancel_left, take_at}
 use Rattle.std.proofs.lemmas.Option.{option_and_then_some, same_Some}
-use Rattle.mqtt_packet.specs.declared.packet.Packet.{Packet}
-use Rattle.mqtt_packet.specs.Written.{var_bytes}
-use Rattle.mqtt_packet.specs.Reading.{packet_of, packet_in, body_after}
-use Rattle.mqtt_packet.specs.Spells.{Spells}
-use Rattle.mqtt_packet.proofs.Frames.{body_found}
-use Rattle.mqtt_packet.proofs.Packets.{spelled_is_read}
+use Rattle.first_mqtt_packet.specs.declared.packet.Packet.{Packet}
+use Rattle.first_mqtt_packet.specs.Written.{var_bytes}
+use Rattle.first_mqtt_packet.specs.Reading.{packet_of, packet_in, body_after}
+use Rattle.first_mqtt_packet.specs.Spells.{Spells}
+use Rattle.first_mqtt_packet.proofs.Frames.{body_found}
+use Rattle.first_mqtt_packet.proofs.Packets.{spelled_is_read}
 
 -- the length that stands in front
 four_cells : ℕ → ℕ → ℕ → ℕ → ℕ

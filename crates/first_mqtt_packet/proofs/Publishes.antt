@@ -5,13 +5,13 @@ use Rattle.std.proofs.lemmas.Bool.{and_parts, and_from, ltb-true, lt-ltb, leb-tr
 use Rattle.std.proofs.lemmas.List.{append_assoc, length-append, length-drop, drop_more, take_at, drop_at, take-append-drop}
 use Rattle.std.proofs.lemmas.Nat.{from_be_bytes-to_be_bytes_2}
 use Rattle.std.proofs.lemmas.Option.{cond_some}
-use Rattle.mqtt_packet.specs.declared.packet.Packet.{Packet}
-use Rattle.mqtt_packet.specs.declared.packet.Packet.TheVariants.{Publish}
-use Rattle.mqtt_packet.specs.Written.{written, framed}
-use Rattle.mqtt_packet.specs.Reading.{two_at, is_publish, topic_at, after_topic, is_plain_topic, publish_in}
-use Rattle.mqtt_packet.specs.Spells.{IsBuilt, publishes}
-use Rattle.mqtt_packet.proofs.Texts.{plain_short}
-use Rattle.mqtt_packet.proofs.Fields.{IsBytes, IsBytes-drop, cut, length_cut, two_back, two_below}
+use Rattle.first_mqtt_packet.specs.declared.packet.Packet.{Packet}
+use Rattle.first_mqtt_packet.specs.declared.packet.Packet.TheVariants.{Publish}
+use Rattle.first_mqtt_packet.specs.Written.{written, framed}
+use Rattle.first_mqtt_packet.specs.Reading.{two_at, is_publish, topic_at, after_topic, is_plain_topic, publish_in}
+use Rattle.first_mqtt_packet.specs.Spells.{IsBuilt, publishes}
+use Rattle.first_mqtt_packet.proofs.Texts.{plain_short}
+use Rattle.first_mqtt_packet.proofs.Fields.{IsBytes, IsBytes-drop, cut, length_cut, two_back, two_below}
 
 -- the body, field by field
 abbrev pub publish_body : List ℕ → ℕ → List ℕ → List ℕ

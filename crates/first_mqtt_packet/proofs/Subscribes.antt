@@ -5,14 +5,14 @@ use Rattle.std.proofs.lemmas.Bool.{and_parts, and_from, ltb-true, lt-ltb, leb-tr
 use Rattle.std.proofs.lemmas.List.{append-nil, length-append, drop_more, drop_all, take_at, get_or_at}
 use Rattle.std.proofs.lemmas.Nat.{from_be_bytes-to_be_bytes_2}
 use Rattle.std.proofs.lemmas.Option.{cond_some}
-use Rattle.mqtt_packet.specs.declared.packet.Wish.{Wish}
-use Rattle.mqtt_packet.specs.declared.packet.Packet.{Packet}
-use Rattle.mqtt_packet.specs.declared.packet.Packet.TheVariants.{Subscribe}
-use Rattle.mqtt_packet.specs.Written.{written, framed}
-use Rattle.mqtt_packet.specs.Reading.{two_at, is_subscribe, filter_at, is_plain_topic, subscribe_in}
-use Rattle.mqtt_packet.specs.Spells.{IsBuilt, subscribes}
-use Rattle.mqtt_packet.proofs.Texts.{plain_short}
-use Rattle.mqtt_packet.proofs.Fields.{IsBytes, cut, length_cut, two_back, two_below}
+use Rattle.first_mqtt_packet.specs.declared.packet.Wish.{Wish}
+use Rattle.first_mqtt_packet.specs.declared.packet.Packet.{Packet}
+use Rattle.first_mqtt_packet.specs.declared.packet.Packet.TheVariants.{Subscribe}
+use Rattle.first_mqtt_packet.specs.Written.{written, framed}
+use Rattle.first_mqtt_packet.specs.Reading.{two_at, is_subscribe, filter_at, is_plain_topic, subscribe_in}
+use Rattle.first_mqtt_packet.specs.Spells.{IsBuilt, subscribes}
+use Rattle.first_mqtt_packet.proofs.Texts.{plain_short}
+use Rattle.first_mqtt_packet.proofs.Fields.{IsBytes, cut, length_cut, two_back, two_below}
 
 -- the body, field by field
 abbrev pub subscribe_body : ℕ → List ℕ → List ℕ

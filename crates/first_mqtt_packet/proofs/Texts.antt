@@ -4,7 +4,7 @@ use Rattle.std.specs.List.{list_all}
 use Rattle.std.specs.Str.{IsAscii, IsUtf8}
 use Rattle.std.proofs.lemmas.Bool.{and_parts, and_from, leb-true}
 use Rattle.std.proofs.lemmas.Str.{IsUtf8-from_ascii}
-use Rattle.mqtt_packet.specs.Reading.{is_text_byte, is_topic_byte, is_plain_topic, is_plain_client, is_subscribe, is_publish, filter_at, topic_at}
+use Rattle.first_mqtt_packet.specs.Reading.{is_text_byte, is_topic_byte, is_plain_topic, is_plain_client, is_subscribe, is_publish, filter_at, topic_at}
 
 ascii : (xs : List ℕ) → list_all is_text_byte xs ≡ true → IsAscii xs
 ascii [] all i = omega arith

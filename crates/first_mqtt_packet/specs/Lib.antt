@@ -1,4 +1,4 @@
 pub mod Written
 pub mod Reading
 pub mod Spells
-pub use Rattle.topic_name.specs.Pieces
+pub use Rattle.first_topic_name.specs.Pieces

@@ -4,13 +4,13 @@ use Rattle.std.specs.List.{list_all}
 use Rattle.std.specs.Option.{option_and_then}
 use Rattle.std.specs.Str.{bytes_eq}
 use Rattle.std.specs.Int.{w16, w32, from_be_bytes}
-use Rattle.topic_name.specs.Pieces.{levels_of}
-use Rattle.mqtt_packet.specs.declared.props.Prop.TheVariants.{Four}
-use Rattle.mqtt_packet.specs.declared.packet.Packet.{Packet}
-use Rattle.mqtt_packet.specs.declared.packet.Packet.TheVariants.{Connect, Publish, Subscribe}
-use Rattle.mqtt_packet.specs.declared.refused.ReadRefused.{ReadRefused}
-use Rattle.mqtt_packet.specs.declared.refused.ReadRefused.TheVariants.{Later, Memory}
-use Rattle.mqtt_packet.specs.Written.{var_bytes}
+use Rattle.first_topic_name.specs.Pieces.{levels_of}
+use Rattle.first_mqtt_packet.specs.declared.props.Prop.TheVariants.{Four}
+use Rattle.first_mqtt_packet.specs.declared.packet.Packet.{Packet}
+use Rattle.first_mqtt_packet.specs.declared.packet.Packet.TheVariants.{Connect, Publish, Subscribe}
+use Rattle.first_mqtt_packet.specs.declared.refused.ReadRefused.{ReadRefused}
+use Rattle.first_mqtt_packet.specs.declared.refused.ReadRefused.TheVariants.{Later, Memory}
+use Rattle.first_mqtt_packet.specs.Written.{var_bytes}
 
 -- how many bytes a length takes that so many bytes, itself among them, begin with (MQTT 1.5.5)
 abbrev pub length_size : ℕ → ℕ

@@ -1,10 +1,10 @@
 -- Which bytes spell which packet.
 use Rattle.std.specs.Prelude.{ℕ, ◌^◌, ◌<◌, ◌≤◌, ◌≡◌, false, IsTrue, List, [], ◌∷◌, length, None}
-use Rattle.mqtt_packet.specs.declared.props.Prop.TheVariants.{Four}
-use Rattle.mqtt_packet.specs.declared.packet.Packet.{Packet}
-use Rattle.mqtt_packet.specs.declared.packet.Packet.TheVariants.{Connect, Publish, Subscribe}
-use Rattle.mqtt_packet.specs.Written.{written}
-use Rattle.mqtt_packet.specs.Reading.{is_plain_client, is_plain_topic}
+use Rattle.first_mqtt_packet.specs.declared.props.Prop.TheVariants.{Four}
+use Rattle.first_mqtt_packet.specs.declared.packet.Packet.{Packet}
+use Rattle.first_mqtt_packet.specs.declared.packet.Packet.TheVariants.{Connect, Publish, Subscribe}
+use Rattle.first_mqtt_packet.specs.Written.{written}
+use Rattle.first_mqtt_packet.specs.Reading.{is_plain_client, is_plain_topic}
 
 -- The values that the three forms have, by kind.
 pub data IsBuilt : Packet → Type 0 where

@@ -2,12 +2,12 @@
 use Rattle.std.specs.Prelude.{ℕ, ◌+◌, ◌*◌, ◌/◌, ◌%◌, nat_lt, Bool, true, false, if◌then◌else◌, List, [], ◌∷◌, ◌++◌, length, Option, Some, None, is_some, codes, ◌≡◌, refl, ◌==◌}
 use Rattle.std.specs.List.{flat_map}
 use Rattle.std.specs.Int.{w16, w32, to_be_bytes}
-use Rattle.mqtt_packet.specs.declared.props.Prop.{Prop}
-use Rattle.mqtt_packet.specs.declared.props.Prop.TheVariants.{Byte, Two, Four, Var, Text, Bin, Pair}
-use Rattle.mqtt_packet.specs.declared.packet.Wish.{Wish}
-use Rattle.mqtt_packet.specs.declared.packet.Will.{Will}
-use Rattle.mqtt_packet.specs.declared.packet.Packet.{Packet}
-use Rattle.mqtt_packet.specs.declared.packet.Packet.TheVariants.{Connect, Connack, Publish, Puback, Subscribe, Suback, Disconnect}
+use Rattle.first_mqtt_packet.specs.declared.props.Prop.{Prop}
+use Rattle.first_mqtt_packet.specs.declared.props.Prop.TheVariants.{Byte, Two, Four, Var, Text, Bin, Pair}
+use Rattle.first_mqtt_packet.specs.declared.packet.Wish.{Wish}
+use Rattle.first_mqtt_packet.specs.declared.packet.Will.{Will}
+use Rattle.first_mqtt_packet.specs.declared.packet.Packet.{Packet}
+use Rattle.first_mqtt_packet.specs.declared.packet.Packet.TheVariants.{Connect, Connack, Publish, Puback, Subscribe, Suback, Disconnect}
 
 -- A variable byte integer in its shortest spelling (MQTT 1.5.5). Above 268,435,455 there is none.
 abbrev pub var_bytes : ℕ → List ℕ

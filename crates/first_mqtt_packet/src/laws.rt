@@ -1,8 +1,8 @@
 ghost use Rattle.std.specs.Prelude.{◌≡◌, ◌≤◌, ◌++◌, ℕ, List, length, Some};
-ghost use Rattle.mqtt_packet.specs.declared.packet.Packet.{Packet};
-ghost use Rattle.mqtt_packet.specs.Written.{written};
-ghost use Rattle.mqtt_packet.specs.Reading.{packet_of};
-ghost use Rattle.mqtt_packet.specs.Spells.{Spells, IsBuilt};
+ghost use Rattle.first_mqtt_packet.specs.declared.packet.Packet.{Packet};
+ghost use Rattle.first_mqtt_packet.specs.Written.{written};
+ghost use Rattle.first_mqtt_packet.specs.Reading.{packet_of};
+ghost use Rattle.first_mqtt_packet.specs.Spells.{Spells, IsBuilt};
 
 /// A law: no spelling begins another, so that packets can follow one another on a connection, and one spelling is
 /// of one packet.

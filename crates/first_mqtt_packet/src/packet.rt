@@ -20,7 +20,7 @@ pub struct Wishes {
 
 impl Model for Wishes {
     ghost use Rattle.std.specs.Prelude.{List};
-    ghost use Rattle.mqtt_packet.specs.declared.packet.Wish.{Wish};
+    ghost use Rattle.first_mqtt_packet.specs.declared.packet.Wish.{Wish};
 
     ghost Value = { List Wish };
 

@@ -27,7 +27,7 @@ pub struct Props {
 
 impl Model for Props {
     ghost use Rattle.std.specs.Prelude.{List};
-    ghost use Rattle.mqtt_packet.specs.declared.props.Prop.{Prop};
+    ghost use Rattle.first_mqtt_packet.specs.declared.props.Prop.{Prop};
 
     ghost Value = { List Prop };
 

@@ -1,9 +1,9 @@
 ghost use Rattle.std.specs.Prelude.{◌≡◌, ◌==◌, ◌≤◌, ◌<◌, ◌+◌, ℕ, length, IfOk, IfErr, true, count_by};
 ghost use Rattle.std.specs.List.{list_all};
 ghost use Rattle.std.specs.Option.{option_copied};
-ghost use Rattle.topic_name.specs.Pieces.{levels_of};
-ghost use Rattle.mqtt_packet.specs.Reading.{packet_of, packet_in, connect_in, subscribe_in, publish_in, is_connect, is_connect_front, is_subscribe, is_publish, body_after, length_size, is_length, two_at, four_at, is_topic_byte, is_text_byte, is_plain_topic, is_plain_client, begins_with_dollar, filter_at, topic_at, after_topic, Gives};
-ghost use Rattle.mqtt_packet.specs.Spells.{Spells};
+ghost use Rattle.first_topic_name.specs.Pieces.{levels_of};
+ghost use Rattle.first_mqtt_packet.specs.Reading.{packet_of, packet_in, connect_in, subscribe_in, publish_in, is_connect, is_connect_front, is_subscribe, is_publish, body_after, length_size, is_length, two_at, four_at, is_topic_byte, is_text_byte, is_plain_topic, is_plain_client, begins_with_dollar, filter_at, topic_at, after_topic, Gives};
+ghost use Rattle.first_mqtt_packet.specs.Spells.{Spells};
 
 use crate::packet::{Packet, Wish, Wishes};
 use crate::props::{Prop, Props};

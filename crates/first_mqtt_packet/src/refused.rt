@@ -1,5 +1,5 @@
 ghost use Rattle.std.specs.Prelude.{◌≡◌};
-ghost use Rattle.mqtt_packet.specs.declared.refused.ReadRefused.TheVariants.{Memory};
+ghost use Rattle.first_mqtt_packet.specs.declared.refused.ReadRefused.TheVariants.{Memory};
 
 use std::alloc::{AllocError, AllocFailed};
 use thiserror::Error;

@@ -2,7 +2,7 @@ ghost use Rattle.std.specs.Prelude.{◌≡◌, ◌<◌, ◌++◌, ◌∷◌, [],
 ghost use Rattle.std.specs.List.{flat_map};
 ghost use Rattle.std.specs.Int.{w16, to_be_bytes};
 ghost use Rattle.std.specs.Option.{is_some};
-ghost use Rattle.mqtt_packet.specs.Written.{written, var_bytes, field, prop_bytes, props_bytes, framed, bit, maybe_field, will_bytes, will_flags, connect_flags, maybe_id, publish_first, ack_rest, wish_bytes};
+ghost use Rattle.first_mqtt_packet.specs.Written.{written, var_bytes, field, prop_bytes, props_bytes, framed, bit, maybe_field, will_bytes, will_flags, connect_flags, maybe_id, publish_first, ack_rest, wish_bytes};
 
 use crate::packet::{Packet, Will, Wish};
 use crate::props::{Prop, Props};

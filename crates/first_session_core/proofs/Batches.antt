@@ -5,14 +5,14 @@ use Rattle.std.specs.Option.{option_to_list}
 use Rattle.std.specs.Borrow.{Bor}
 use Rattle.std.proofs.lemmas.List.{append-nil, drop-map, drop_more}
 use Rattle.std.proofs.lemmas.Bool.{le-leb, lt-leb}
-use Rattle.topic_name.specs.StoredMessage.{StoredMessage}
-use Rattle.shard_terms.specs.declared.sweep.Sweep.{Sweep}
-use Rattle.shard_terms.specs.SweepOrder.{sweep_after}
-use Rattle.session_terms.specs.declared.entry.Entry.{Entry}
-use Rattle.session_terms.specs.Entry.{count1, count2}
-use Rattle.mqtt_packet.specs.declared.packet.Packet.{Packet}
-use Rattle.session_core.specs.SessionView.{sweep_of}
-use Rattle.session_core.specs.Pump.{Issue, Due, Reader, due_of, size_of, batch_within, batch_of}
+use Rattle.first_topic_name.specs.StoredMessage.{StoredMessage}
+use Rattle.first_shard_terms.specs.declared.sweep.Sweep.{Sweep}
+use Rattle.first_shard_terms.specs.SweepOrder.{sweep_after}
+use Rattle.first_session_terms.specs.declared.entry.Entry.{Entry}
+use Rattle.first_session_terms.specs.Entry.{count1, count2}
+use Rattle.first_mqtt_packet.specs.declared.packet.Packet.{Packet}
+use Rattle.first_session_core.specs.SessionView.{sweep_of}
+use Rattle.first_session_core.specs.Pump.{Issue, Due, Reader, due_of, size_of, batch_within, batch_of}
 
 -- the batch whose first message is issued so
 within_with : Due → Reader → ℕ → ℕ → ℕ → List StoredMessage → List Due

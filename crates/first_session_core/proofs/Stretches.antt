@@ -5,16 +5,16 @@ use Rattle.std.specs.List.{filter_map}
 use Rattle.std.specs.Borrow.{Bor}
 use Rattle.std.proofs.lemmas.Bool.{cases_lt, le-leb, lt-leb, lt-ltb, le-ltb}
 use Rattle.std.proofs.lemmas.List.{take-take, length-take, length-map}
-use Rattle.topic_name.specs.StoredMessage.{StoredMessage}
-use Rattle.shard_terms.specs.declared.sweep.Sweep.{Sweep}
-use Rattle.shard_terms.specs.Wanted.{is_wanted}
-use Rattle.shard_terms.specs.SweepOrder.{Run, run_or_else, wanted_in, next_run, sweep_after}
-use Rattle.session_terms.specs.PlainSession.{PlainSession, issued1_of, issued2_of}
-use Rattle.session_core.specs.declared.subscription.Subscription.{Subscription}
-use Rattle.session_core.specs.PlainConnection.{PlainConnection}
-use Rattle.session_core.specs.Pump.{Issue, Due, Reader, Pair, batch_of, batch_within, issue_of}
-use Rattle.session_core.specs.SessionView.{sweep_of, list_with, HasOffsets, reader_of, subscription_of, issued_run, issued_in_stretch}
-use Rattle.session_core.proofs.Batches.{same_issue, now_of}
+use Rattle.first_topic_name.specs.StoredMessage.{StoredMessage}
+use Rattle.first_shard_terms.specs.declared.sweep.Sweep.{Sweep}
+use Rattle.first_shard_terms.specs.Wanted.{is_wanted}
+use Rattle.first_shard_terms.specs.SweepOrder.{Run, run_or_else, wanted_in, next_run, sweep_after}
+use Rattle.first_session_terms.specs.PlainSession.{PlainSession, issued1_of, issued2_of}
+use Rattle.first_session_core.specs.declared.subscription.Subscription.{Subscription}
+use Rattle.first_session_core.specs.PlainConnection.{PlainConnection}
+use Rattle.first_session_core.specs.Pump.{Issue, Due, Reader, Pair, batch_of, batch_within, issue_of}
+use Rattle.first_session_core.specs.SessionView.{sweep_of, list_with, HasOffsets, reader_of, subscription_of, issued_run, issued_in_stretch}
+use Rattle.first_session_core.proofs.Batches.{same_issue, now_of}
 
 -- between two offsets, and of those that pass the test
 abbrev between : ℕ → ℕ → (StoredMessage → Bool) → StoredMessage → Bool

@@ -1,17 +1,17 @@
 -- How a stored message goes out to a subscription.
 use Rattle.std.specs.Prelude.{ℕ, ◌/◌, ◌%◌, min, Bool, false, ◌&&◌, ◌||◌, ◌==◌, nat_lt, if◌then◌else◌, List, [], ◌∷◌, length}
 use Rattle.std.specs.Str.{bytes_eq}
-use Rattle.topic_name.specs.Pieces.{text_of_levels}
-use Rattle.topic_name.specs.StoredMessage.{StoredMessage}
-use Rattle.session_terms.specs.declared.entry.Kind.{Kind}
-use Rattle.session_terms.specs.declared.entry.Kind.TheVariants.{Track1, Track2, Zero, Silent}
-use Rattle.session_terms.specs.declared.entry.Version.{Version}
-use Rattle.session_terms.specs.Entry.{id1, id2}
-use Rattle.mqtt_packet.specs.declared.props.Prop.{Prop}
-use Rattle.mqtt_packet.specs.declared.props.Prop.TheVariants.{Var}
-use Rattle.mqtt_packet.specs.declared.packet.Packet.{Packet}
-use Rattle.mqtt_packet.specs.declared.packet.Packet.TheVariants.{Publish}
-use Rattle.mqtt_packet.specs.Written.{written}
+use Rattle.first_topic_name.specs.Pieces.{text_of_levels}
+use Rattle.first_topic_name.specs.StoredMessage.{StoredMessage}
+use Rattle.first_session_terms.specs.declared.entry.Kind.{Kind}
+use Rattle.first_session_terms.specs.declared.entry.Kind.TheVariants.{Track1, Track2, Zero, Silent}
+use Rattle.first_session_terms.specs.declared.entry.Version.{Version}
+use Rattle.first_session_terms.specs.Entry.{id1, id2}
+use Rattle.first_mqtt_packet.specs.declared.props.Prop.{Prop}
+use Rattle.first_mqtt_packet.specs.declared.props.Prop.TheVariants.{Var}
+use Rattle.first_mqtt_packet.specs.declared.packet.Packet.{Packet}
+use Rattle.first_mqtt_packet.specs.declared.packet.Packet.TheVariants.{Publish}
+use Rattle.first_mqtt_packet.specs.Written.{written}
 
 -- the parts of the options byte (MQTT 3.8.3.1)
 abbrev pub qos_of : Version → ℕ

@@ -1,8 +1,8 @@
 -- What the fields of an issue mean.
-use Rattle.session_core.specs.declared.issued.Issued.{Issued}
-use Rattle.session_core.specs.declared.issued.Due.{Due}
-use Rattle.session_core.specs.Pump as plain
-use Rattle.session_core.specs.SessionView.{sweep_of}
+use Rattle.first_session_core.specs.declared.issued.Issued.{Issued}
+use Rattle.first_session_core.specs.declared.issued.Due.{Due}
+use Rattle.first_session_core.specs.Pump as plain
+use Rattle.first_session_core.specs.SessionView.{sweep_of}
 
 abbrev pub issue_of_fields : Issued → plain.Issue
 issue_of_fields i =

@@ -1,8 +1,8 @@
 -- A connection that is bound to a client's session.
 use Rattle.std.specs.Prelude.{ℕ, ◌==◌, if◌then◌else◌, List, [], ◌∷◌, Option, Some, None, unwrap_or}
-use Rattle.session_terms.specs.declared.entry.Entry.{Entry}
-use Rattle.mqtt_packet.specs.declared.props.Prop.{Prop}
-use Rattle.mqtt_packet.specs.declared.props.Prop.TheVariants.{Byte, Two, Four, Var, Text, Bin, Pair}
+use Rattle.first_session_terms.specs.declared.entry.Entry.{Entry}
+use Rattle.first_mqtt_packet.specs.declared.props.Prop.{Prop}
+use Rattle.first_mqtt_packet.specs.declared.props.Prop.TheVariants.{Byte, Two, Four, Var, Text, Bin, Pair}
 
 -- Its number and client; how many more messages above QoS 0 may be under way, and how many at its start (MQTT 4.9);
 -- the longest packet that its client takes (MQTT 3.1.2.11.4); its Keep Alive in seconds, and the moment of its last

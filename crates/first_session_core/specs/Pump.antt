@@ -1,20 +1,20 @@
 -- What one pump of a connection issues.
 use Rattle.std.specs.Prelude.{ℕ, ◌+◌, ◌-◌, min, Bool, false, ◌&&◌, ◌||◌, not, ◌==◌, nat_lt, nat_le, if◌then◌else◌, List, [], ◌∷◌, ◌++◌, length, map, filter, take, slice_get, Option, Some, None}
 use Rattle.std.specs.List.{flat_map, filter_map}
-use Rattle.topic_name.specs.StoredMessage.{StoredMessage}
-use Rattle.shard_terms.specs.declared.sweep.Sweep.{Sweep}
-use Rattle.shard_terms.specs.ShardList.{ShardList}
-use Rattle.shard_terms.specs.SweepOrder.{Run, next_run, sweep_after}
-use Rattle.session_terms.specs.declared.entry.Entry.{Entry}
-use Rattle.session_terms.specs.declared.entry.Kind.{Kind}
-use Rattle.session_terms.specs.declared.entry.Kind.TheVariants.{Track1, Track2, Zero, Silent}
-use Rattle.session_terms.specs.declared.entry.Version.{Version}
-use Rattle.session_terms.specs.Entry.{count1, count2}
-use Rattle.session_terms.specs.PlainSession.{PlainSession, Subscription, room_of, issued1_of, issued2_of, version_numbered}
-use Rattle.mqtt_packet.specs.declared.packet.Packet.{Packet}
-use Rattle.mqtt_packet.specs.Written.{written}
-use Rattle.session_core.specs.PlainConnection.{PlainConnection}
-use Rattle.session_core.specs.Delivery.{delivery, kind_of}
+use Rattle.first_topic_name.specs.StoredMessage.{StoredMessage}
+use Rattle.first_shard_terms.specs.declared.sweep.Sweep.{Sweep}
+use Rattle.first_shard_terms.specs.ShardList.{ShardList}
+use Rattle.first_shard_terms.specs.SweepOrder.{Run, next_run, sweep_after}
+use Rattle.first_session_terms.specs.declared.entry.Entry.{Entry}
+use Rattle.first_session_terms.specs.declared.entry.Kind.{Kind}
+use Rattle.first_session_terms.specs.declared.entry.Kind.TheVariants.{Track1, Track2, Zero, Silent}
+use Rattle.first_session_terms.specs.declared.entry.Version.{Version}
+use Rattle.first_session_terms.specs.Entry.{count1, count2}
+use Rattle.first_session_terms.specs.PlainSession.{PlainSession, Subscription, room_of, issued1_of, issued2_of, version_numbered}
+use Rattle.first_mqtt_packet.specs.declared.packet.Packet.{Packet}
+use Rattle.first_mqtt_packet.specs.Written.{written}
+use Rattle.first_session_core.specs.PlainConnection.{PlainConnection}
+use Rattle.first_session_core.specs.Delivery.{delivery, kind_of}
 
 -- at most so many messages, and so many bytes of packets unless it is one packet
 abbrev pub batch_messages : ℕ

@@ -1,15 +1,15 @@
 -- What a packet of a bound connection does: the reason that it is closed with, or else what is stored, changed and answered.
 use Rattle.std.specs.Prelude.{ℕ, ◌+◌, List, [], ◌∷◌, length, map, Option, Some, None}
-use Rattle.topic_name.specs.Pieces.{levels_of}
-use Rattle.topic_name.specs.StoredMessage.{StoredMessage}
-use Rattle.shard_terms.specs.declared.sweep.Sweep.{Sweep}
-use Rattle.shard_terms.specs.ShardList.{ShardList, Op, Store}
-use Rattle.shard_terms.specs.SweepOrder.{starting_sweep}
-use Rattle.session_terms.specs.PlainSession.{PlainSession, Subscription}
-use Rattle.session_terms.specs.Change.{Change, Subscribed}
-use Rattle.mqtt_packet.specs.declared.packet.Packet.{Packet}
-use Rattle.mqtt_packet.specs.declared.packet.Wish.{Wish}
-use Rattle.mqtt_packet.specs.declared.packet.Packet.TheVariants.{Connect, Connack, Publish, Puback, Subscribe, Suback, Disconnect}
+use Rattle.first_topic_name.specs.Pieces.{levels_of}
+use Rattle.first_topic_name.specs.StoredMessage.{StoredMessage}
+use Rattle.first_shard_terms.specs.declared.sweep.Sweep.{Sweep}
+use Rattle.first_shard_terms.specs.ShardList.{ShardList, Op, Store}
+use Rattle.first_shard_terms.specs.SweepOrder.{starting_sweep}
+use Rattle.first_session_terms.specs.PlainSession.{PlainSession, Subscription}
+use Rattle.first_session_terms.specs.Change.{Change, Subscribed}
+use Rattle.first_mqtt_packet.specs.declared.packet.Packet.{Packet}
+use Rattle.first_mqtt_packet.specs.declared.packet.Wish.{Wish}
+use Rattle.first_mqtt_packet.specs.declared.packet.Packet.TheVariants.{Connect, Connack, Publish, Puback, Subscribe, Suback, Disconnect}
 
 -- a SUBSCRIBE of a session that has a subscription is not built yet
 abbrev pub refusal_of_subscribe : List Subscription → Option ℕ

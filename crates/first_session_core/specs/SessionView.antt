@@ -1,16 +1,16 @@
 -- What the fields of a session mean. It has at most one subscription so far, which is number 1 and version 1, in the one
 -- shard 0, whose one generation is number 0 and has the one stream 0.
 use Rattle.std.specs.Prelude.{ℕ, ◌+◌, ◌≡◌, true, List, [], ◌∷◌, Option, Some, None}
-use Rattle.topic_name.specs.StoredMessage.{StoredMessage}
-use Rattle.shard_terms.specs.declared.sweep.Sweep.{Sweep}
-use Rattle.shard_terms.specs.ShardList.{ShardList, opening_list}
-use Rattle.shard_terms.specs.SweepOrder.{Run, run_or_else, wanted_in}
-use Rattle.session_terms.specs.declared.entry.Version.{Version}
-use Rattle.session_terms.specs.PlainSession as plain
-use Rattle.session_terms.specs.PlainSession.{PlainSession}
-use Rattle.session_core.specs.Pump.{Reader, Issue, issue_of}
-use Rattle.session_core.specs.PlainConnection.{PlainConnection}
-use Rattle.session_core.specs.declared.subscription.Subscription.{Subscription}
+use Rattle.first_topic_name.specs.StoredMessage.{StoredMessage}
+use Rattle.first_shard_terms.specs.declared.sweep.Sweep.{Sweep}
+use Rattle.first_shard_terms.specs.ShardList.{ShardList, opening_list}
+use Rattle.first_shard_terms.specs.SweepOrder.{Run, run_or_else, wanted_in}
+use Rattle.first_session_terms.specs.declared.entry.Version.{Version}
+use Rattle.first_session_terms.specs.PlainSession as plain
+use Rattle.first_session_terms.specs.PlainSession.{PlainSession}
+use Rattle.first_session_core.specs.Pump.{Reader, Issue, issue_of}
+use Rattle.first_session_core.specs.PlainConnection.{PlainConnection}
+use Rattle.first_session_core.specs.declared.subscription.Subscription.{Subscription}
 
 abbrev pub sweep_of : ℕ → ℕ → ℕ → Sweep
 sweep_of base target position = record { generation = 0; base = base; target = target; stream = 0; position = position }

@@ -1,10 +1,10 @@
 ghost use Rattle.std.specs.Prelude.{◌≡◌, ◌-◌, [], Some};
-ghost use Rattle.session_core.specs.PlainConnection.{bound_connection, two_of, four_of, two_value, four_value};
-ghost use Rattle.session_core.specs.Pump.{quota_used};
+ghost use Rattle.first_session_core.specs.PlainConnection.{bound_connection, two_of, four_of, two_value, four_value};
+ghost use Rattle.first_session_core.specs.Pump.{quota_used};
 
 use crate::tracks::used_by;
-use mqtt_packet::{Prop, Props};
-use session_terms::Entry;
+use first_mqtt_packet::{Prop, Props};
+use first_session_terms::Entry;
 use std::marker::Model;
 use topic_name::Name;
 
@@ -23,7 +23,7 @@ pub struct Connection {
 
 impl Model for Connection {
     ghost use Rattle.std.specs.Prelude.{[]};
-    ghost use Rattle.session_core.specs.PlainConnection.{PlainConnection};
+    ghost use Rattle.first_session_core.specs.PlainConnection.{PlainConnection};
 
     ghost Value = { PlainConnection };
 

@@ -1,15 +1,16 @@
 ghost use Rattle.std.specs.Prelude.{◌≡◌, ◌&&◌, false, IfOk, Some};
-ghost use Rattle.session_core.specs.Delivery.{delivery, loud_kind, no_local_of};
-ghost use Rattle.session_core.specs.SessionView.{version_of};
+ghost use Rattle.first_session_core.specs.Delivery.{delivery, loud_kind, no_local_of};
+ghost use Rattle.first_session_core.specs.SessionView.{version_of};
 ghost use Rattle.std.specs.Str.{bytes_eq};
-ghost use Rattle.session_core.specs.Pump.{packet_of_kind};
+ghost use Rattle.first_session_core.specs.Pump.{packet_of_kind};
 
 use crate::subscription::Subscription;
 use crate::tracks::{first_id, second_id};
-use mqtt_packet::{Packet, Props};
-use session_terms::Kind;
+use first_mqtt_packet::{Packet, Props};
+use first_session_terms::Kind;
+use first_topic_name::Message;
 use std::alloc::{AllocError, Global};
-use topic_name::{Message, Name};
+use topic_name::Name;
 
 /// The PUBLISH that carries a message as an entry of this kind, for the first time (MQTT 3.3).
 pub fn make_delivery(

@@ -1,5 +1,5 @@
-use mqtt_packet::Packet;
-use session_terms::Entry;
+use first_mqtt_packet::Packet;
+use first_session_terms::Entry;
 
 /// What a pump issued: the entries, the packets that go out for them, and base, target and position of the sweep after it.
 #[derive(Debug, Drop)]

@@ -1,11 +1,11 @@
 ghost use Rattle.std.specs.Prelude.{◌≡◌, ◌+◌, ◌-◌, ◌<◌, ◌≤◌, ◌^◌, [], ◌∷◌, ◌++◌, length, map, take, drop, min, IfOk, OnOk};
 ghost use Rattle.std.specs.List.{filter_map};
 ghost use Rattle.std.specs.Option.{option_map, option_to_list};
-ghost use Rattle.session_core.specs.Pump.{pump_limit, pump_of, due_of, batch_of, batch_within, size_of, Due as PlainDue};
-ghost use Rattle.session_core.specs.SessionView.{sweep_of, list_with, HasOffsets, reader_of, issued_run, issued_in_stretch};
-ghost use Rattle.session_core.specs.IssuedView.{issue_of_fields, due_of_fields};
-ghost use Rattle.mqtt_packet.specs.Written.{written};
-ghost use Rattle.shard_terms.specs.SweepOrder.{sweep_after, next_run};
+ghost use Rattle.first_session_core.specs.Pump.{pump_limit, pump_of, due_of, batch_of, batch_within, size_of, Due as PlainDue};
+ghost use Rattle.first_session_core.specs.SessionView.{sweep_of, list_with, HasOffsets, reader_of, issued_run, issued_in_stretch};
+ghost use Rattle.first_session_core.specs.IssuedView.{issue_of_fields, due_of_fields};
+ghost use Rattle.first_mqtt_packet.specs.Written.{written};
+ghost use Rattle.first_shard_terms.specs.SweepOrder.{sweep_after, next_run};
 
 use crate::connection::Connection;
 use crate::delivery::{is_own, kind_by_qos, make_delivery};
@@ -14,10 +14,11 @@ use crate::session::Session;
 use crate::subscription::Subscription;
 use crate::sweep::{find_wanted, stretch_of};
 use crate::tracks::{one1, one2};
-use mqtt_packet::{Packet, write};
-use session_terms::{Entry, Kind};
+use first_mqtt_packet::{Packet, write};
+use first_session_terms::{Entry, Kind};
+use first_topic_name::Message;
 use std::alloc::{AllocError, Global};
-use topic_name::{Message, Name};
+use topic_name::Name;
 
 /// What a pump of the connection issues of these messages, which are all of the shard: `None` where nothing that the
 /// session wants is left, or window or quota take no more. Nothing is changed by it.

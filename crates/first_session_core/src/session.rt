@@ -1,14 +1,15 @@
 ghost use Rattle.std.specs.Prelude.{◌≡◌, ◌+◌, ◌<◌, ◌^◌, [], ◌∷◌, length, OnOk, OnErr};
-ghost use Rattle.session_terms.specs.PlainSession.{begun_session, issued1_of, issued2_of, room_of};
-ghost use Rattle.session_terms.specs.Change.{parted_session, subscribed_session, issued_session};
-ghost use Rattle.session_core.specs.SessionView.{sweep_of, subscriptions_of, versions_of};
+ghost use Rattle.first_session_terms.specs.PlainSession.{begun_session, issued1_of, issued2_of, room_of};
+ghost use Rattle.first_session_terms.specs.Change.{parted_session, subscribed_session, issued_session};
+ghost use Rattle.first_session_core.specs.SessionView.{sweep_of, subscriptions_of, versions_of};
 
 use crate::subscription::Subscription;
 use crate::tracks::{total1, total2};
-use session_terms::Entry;
+use first_session_terms::Entry;
+use first_topic_name::Filter;
 use std::alloc::{AllocError, Global};
 use std::marker::Model;
-use topic_name::{Filter, Name};
+use topic_name::Name;
 
 /// What the broker keeps of a client, with or without a connection (MQTT 4.1). Contracts see a `PlainSession`.
 #[derive(Debug, Drop)]
@@ -23,11 +24,11 @@ pub struct Session {
 
 impl Model for Session {
     ghost use Rattle.std.specs.Prelude.{[]};
-    ghost use Rattle.session_terms.specs.PlainSession.{PlainSession};
+    ghost use Rattle.first_session_terms.specs.PlainSession.{PlainSession};
 
     ghost Value = { PlainSession };
 
-    ghost use Rattle.session_core.specs.SessionView.{subscriptions_of, versions_of};
+    ghost use Rattle.first_session_core.specs.SessionView.{subscriptions_of, versions_of};
 
     ghost view = { λ s. record { client = s.client; incarnation = s.incarnation; window = 512; expiry = s.expiry; parted = s.parted; subscriptions = subscriptions_of s.subscription; versions = versions_of s.subscription; issued = s.issued.items; acked = 0; received = 0; done = [] } };
 }

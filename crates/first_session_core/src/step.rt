@@ -1,8 +1,8 @@
 ghost use Rattle.std.specs.Prelude.{◌≡◌};
-ghost use Rattle.session_core.specs.SessionStep.{refusal_of};
+ghost use Rattle.first_session_core.specs.SessionStep.{refusal_of};
 
 use crate::session::Session;
-use mqtt_packet::Packet;
+use first_mqtt_packet::Packet;
 
 /// The reason code that the packet closes its connection with, none where it is taken (MQTT 4.13): 0x82 for a second
 /// CONNECT, 0x83 for what is not built yet.

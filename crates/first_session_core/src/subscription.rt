@@ -1,4 +1,4 @@
-use topic_name::Filter;
+use first_topic_name::Filter;
 
 /// The one subscription of a session: its filter, the options that it was asked with (MQTT 3.8.3.1), the offset that it
 /// starts at, and how far it is: base, target and position of its sweep.

@@ -1,8 +1,8 @@
 ghost use Rattle.std.specs.Prelude.{◌≡◌, ◌-◌, map, filter, take, drop, IfOk};
-ghost use Rattle.shard_terms.specs.Wanted.{is_wanted};
+ghost use Rattle.first_shard_terms.specs.Wanted.{is_wanted};
 
+use first_topic_name::{Filter, Message, matches};
 use std::alloc::{AllocError, Global};
-use topic_name::{Filter, Message, matches};
 
 /// The first wanted messages of a stretch, at most so many.
 pub fn find_wanted<'a>(

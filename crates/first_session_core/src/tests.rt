@@ -2,11 +2,12 @@
 ghost use Rattle.std.specs.Prelude.{◌≡◌, IfOk};
 
 use crate::{Connection, Issued, Session, pump, refusal};
-use mqtt_packet::{Packet, Prop, Props, Wishes, write};
-use session_terms::{Entry, Kind};
+use first_mqtt_packet::{Packet, Prop, Props, Wishes, write};
+use first_session_terms::{Entry, Kind};
+use first_topic_name::{Filter, Message, Topic};
 use std::alloc::{AllocError, Global};
 use std::test::Fail;
-use topic_name::{Blob, Filter, Message, Name, Topic};
+use topic_name::{Blob, Name};
 
 // The PUBLISH of `hi` to `a/b` at QoS 1 with the identifier 1, laid out by hand.
 const PUBLISH: [u8; 12] = [

@@ -1,9 +1,9 @@
 ghost use Rattle.std.specs.Prelude.{◌≡◌, ◌≤◌, length, sum_by};
-ghost use Rattle.session_terms.specs.declared.entry.Entry.{Entry as Issued};
-ghost use Rattle.session_terms.specs.Entry.{count1, count2, id1, id2};
-ghost use Rattle.session_core.specs.Pump.{quota_used};
+ghost use Rattle.first_session_terms.specs.declared.entry.Entry.{Entry as Issued};
+ghost use Rattle.first_session_terms.specs.Entry.{count1, count2, id1, id2};
+ghost use Rattle.first_session_core.specs.Pump.{quota_used};
 
-use session_terms::{Entry, Kind};
+use first_session_terms::{Entry, Kind};
 
 /// 1 where the entry has a number of the track of QoS 1.
 pub fn one1(kind: Kind) -> u64

@@ -1,7 +1,7 @@
 -- The numbers of what a session was issued.
 use Rattle.std.specs.Prelude.{ℕ, ◌+◌, ◌-◌, ◌*◌, ◌%◌, ◌≡◌, refl}
-use Rattle.session_terms.specs.declared.entry.Kind.{Kind}
-use Rattle.session_terms.specs.declared.entry.Kind.TheVariants.{Track1, Track2, Zero, Silent}
+use Rattle.first_session_terms.specs.declared.entry.Kind.{Kind}
+use Rattle.first_session_terms.specs.declared.entry.Kind.TheVariants.{Track1, Track2, Zero, Silent}
 
 -- the packet identifier of a number of track 1, and of track 2: the odd ones and the even ones
 abbrev pub id1 : ℕ → ℕ

@@ -1,11 +1,11 @@
 -- Of each topic a subscription has been issued a prefix of what it wants.
 use Rattle.std.specs.Prelude.{ℕ, ◌≡◌, Bool, ◌&&◌, ◌==◌, nat_le, List, ◌++◌, map, filter}
 use Rattle.std.specs.List.{list_any}
-use Rattle.topic_name.specs.StoredMessage.{StoredMessage}
-use Rattle.shard_terms.specs.ShardList.{ShardList, floor_of}
-use Rattle.shard_terms.specs.Wanted.{wanted_of_topic, same_topic}
-use Rattle.session_terms.specs.declared.entry.Entry.{Entry}
-use Rattle.session_terms.specs.PlainSession.{PlainSession, Subscription}
+use Rattle.first_topic_name.specs.StoredMessage.{StoredMessage}
+use Rattle.first_shard_terms.specs.ShardList.{ShardList, floor_of}
+use Rattle.first_shard_terms.specs.Wanted.{wanted_of_topic, same_topic}
+use Rattle.first_session_terms.specs.declared.entry.Entry.{Entry}
+use Rattle.first_session_terms.specs.PlainSession.{PlainSession, Subscription}
 
 -- the offsets that a session was issued for a subscription in a shard, at or above the list's floor, in order of issue
 abbrev pub issued_offsets : PlainSession → ℕ → ℕ → ShardList → List ℕ

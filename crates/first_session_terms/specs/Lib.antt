@@ -3,7 +3,7 @@ pub mod PlainSession
 pub mod Change
 pub mod Unfinished
 pub mod IssuedPrefix
-pub use Rattle.shard_terms.specs.ShardList
-pub use Rattle.shard_terms.specs.Wanted
-pub use Rattle.shard_terms.specs.SweepOrder
-pub use Rattle.topic_name.specs.StoredMessage
+pub use Rattle.first_shard_terms.specs.ShardList
+pub use Rattle.first_shard_terms.specs.Wanted
+pub use Rattle.first_shard_terms.specs.SweepOrder
+pub use Rattle.first_topic_name.specs.StoredMessage

@@ -1,10 +1,10 @@
 -- A session as a list of all that it was issued since it began.
 use Rattle.std.specs.Prelude.{ℕ, zero, suc, ◌+◌, ◌-◌, Bool, ◌==◌, if◌then◌else◌, List, [], length, sum_by, find, Option, None}
 use Rattle.std.specs.List.{list_any}
-use Rattle.shard_terms.specs.declared.sweep.Sweep.{Sweep}
-use Rattle.session_terms.specs.declared.entry.Entry.{Entry}
-use Rattle.session_terms.specs.declared.entry.Version.{Version}
-use Rattle.session_terms.specs.Entry.{count1, count2}
+use Rattle.first_shard_terms.specs.declared.sweep.Sweep.{Sweep}
+use Rattle.first_session_terms.specs.declared.entry.Entry.{Entry}
+use Rattle.first_session_terms.specs.declared.entry.Version.{Version}
+use Rattle.first_session_terms.specs.Entry.{count1, count2}
 
 -- A subscription: whether it is live, its present version, its filter, and for each shard the offset that it starts at
 -- and how far it is.

@@ -1,10 +1,10 @@
 -- Which entries of a session are not finished yet.
 use Rattle.std.specs.Prelude.{Bool, true, false, ◌&&◌, not, ◌==◌, nat_le, List, filter}
 use Rattle.std.specs.List.{list_any}
-use Rattle.session_terms.specs.declared.entry.Entry.{Entry}
-use Rattle.session_terms.specs.declared.entry.Kind.{Kind}
-use Rattle.session_terms.specs.declared.entry.Kind.TheVariants.{Track1, Track2, Zero, Silent}
-use Rattle.session_terms.specs.PlainSession.{PlainSession}
+use Rattle.first_session_terms.specs.declared.entry.Entry.{Entry}
+use Rattle.first_session_terms.specs.declared.entry.Kind.{Kind}
+use Rattle.first_session_terms.specs.declared.entry.Kind.TheVariants.{Track1, Track2, Zero, Silent}
+use Rattle.first_session_terms.specs.PlainSession.{PlainSession}
 
 -- at or below the mark of track 1, done on track 2, and always where it has no number
 abbrev pub kind_is_finished : PlainSession → Kind → Bool

@@ -1,6 +1,6 @@
 ghost use Rattle.std.specs.Prelude.{List, ◌≡◌, ◌++◌};
-ghost use Rattle.session_terms.specs.PlainSession.{PlainSession};
-ghost use Rattle.session_terms.specs.Change.{Change, act_all};
+ghost use Rattle.first_session_terms.specs.PlainSession.{PlainSession};
+ghost use Rattle.first_session_terms.specs.Change.{Change, act_all};
 
 /// Changes one after the other are the changes of both lists: a record may hold the changes of several packets.
 pub fn changes_compose()

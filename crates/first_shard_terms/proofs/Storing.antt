@@ -1,8 +1,8 @@
 -- Storing adds messages at the end, and nothing else changes.
 use Rattle.std.proofs.Common.{◌≡◌, ℕ, Bool, true, false, cond, List, [], ◌∷◌, ◌++◌, refl, sym, ap, ◌∙◌, append_assoc}
 use Rattle.std.proofs.lemmas.List.{append-nil}
-use Rattle.topic_name.specs.StoredMessage.{StoredMessage}
-use Rattle.shard_terms.specs.ShardList.{ShardList, Op, Store, Release, Forget, store, store_one, placed, next_of}
+use Rattle.first_topic_name.specs.StoredMessage.{StoredMessage}
+use Rattle.first_shard_terms.specs.ShardList.{ShardList, Op, Store, Release, Forget, store, store_one, placed, next_of}
 
 -- the messages of a later list are those of the earlier one and more
 abbrev pub Adds : ShardList → ShardList → Type 0

@@ -1,6 +1,6 @@
 -- What a shard has room for. Generations have no limits yet, so every group fits.
 use Rattle.std.specs.Prelude.{ℕ, Bool, true, false, List}
-use Rattle.shard_terms.specs.ShardList.{ShardList, Op}
+use Rattle.first_shard_terms.specs.ShardList.{ShardList, Op}
 
 -- the operations fit the newest generation
 abbrev pub fits : ShardList → List Op → Bool

@@ -2,7 +2,7 @@
 use Rattle.std.specs.Prelude.{ℕ, ◌+◌, Bool, ◌&&◌, not, ◌==◌, nat_lt, if◌then◌else◌, List, [], ◌∷◌, ◌++◌, length, filter, Option, None}
 use Rattle.std.specs.List.{list_any}
 use Rattle.std.specs.Str.{bytes_eq}
-use Rattle.topic_name.specs.StoredMessage.{StoredMessage}
+use Rattle.first_topic_name.specs.StoredMessage.{StoredMessage}
 
 -- A generation: its number, the offset that it begins at, the thresholds of its learned topics, how many messages
 -- it takes, and the moment at which it was sealed. Only the last one of a list isn't sealed.

@@ -1,7 +1,7 @@
 -- The streams of a generation. Topics are not learned yet, so a generation has the one stream 0.
 use Rattle.std.specs.Prelude.{ℕ}
-use Rattle.topic_name.specs.StoredMessage.{StoredMessage}
-use Rattle.shard_terms.specs.ShardList.{ShardList, Cut}
+use Rattle.first_topic_name.specs.StoredMessage.{StoredMessage}
+use Rattle.first_shard_terms.specs.ShardList.{ShardList, Cut}
 
 -- the stream that a message of this list lies in
 abbrev pub stream_of : ShardList → StoredMessage → ℕ

@@ -1,11 +1,11 @@
 -- The order in which a subscription goes through the messages of a shard, generation by generation and in each stream
 -- by stream, and the next run of messages in this order.
 use Rattle.std.specs.Prelude.{ℕ, zero, suc, ◌+◌, ◌-◌, Bool, ◌&&◌, ◌==◌, nat_lt, nat_le, if◌then◌else◌, List, [], ◌∷◌, ◌++◌, filter, map, Option, Some, None}
-use Rattle.topic_name.specs.StoredMessage.{StoredMessage}
-use Rattle.shard_terms.specs.declared.sweep.Sweep.{Sweep}
-use Rattle.shard_terms.specs.ShardList.{ShardList, Cut, next_of}
-use Rattle.shard_terms.specs.Wanted.{is_wanted}
-use Rattle.shard_terms.specs.Streams.{stream_of, stream_count}
+use Rattle.first_topic_name.specs.StoredMessage.{StoredMessage}
+use Rattle.first_shard_terms.specs.declared.sweep.Sweep.{Sweep}
+use Rattle.first_shard_terms.specs.ShardList.{ShardList, Cut, next_of}
+use Rattle.first_shard_terms.specs.Wanted.{is_wanted}
+use Rattle.first_shard_terms.specs.Streams.{stream_of, stream_count}
 
 -- at the front of a generation
 abbrev pub at_cut : Cut → Sweep

@@ -2,9 +2,9 @@
 use Rattle.std.specs.Prelude.{ℕ, Bool, ◌&&◌, nat_le, List, filter}
 use Rattle.std.specs.Cmp.Lexicographic.{pointwise}
 use Rattle.std.specs.Str.{bytes_eq}
-use Rattle.topic_name.specs.StoredMessage.{StoredMessage}
-use Rattle.topic_name.specs.Matching.{filter_matches}
-use Rattle.shard_terms.specs.ShardList.{ShardList}
+use Rattle.first_topic_name.specs.StoredMessage.{StoredMessage}
+use Rattle.first_topic_name.specs.Matching.{filter_matches}
+use Rattle.first_shard_terms.specs.ShardList.{ShardList}
 
 -- at or past the start of the subscription in this shard, and of a topic that its filter matches
 abbrev pub is_wanted : List (List ℕ) → ℕ → StoredMessage → Bool

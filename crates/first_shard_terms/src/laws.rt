@@ -1,6 +1,6 @@
 ghost use Rattle.std.specs.Prelude.{◌≡◌, ◌++◌, List, ℕ};
-ghost use Rattle.topic_name.specs.StoredMessage.{StoredMessage};
-ghost use Rattle.shard_terms.specs.ShardList.{ShardList, Op, store};
+ghost use Rattle.first_topic_name.specs.StoredMessage.{StoredMessage};
+ghost use Rattle.first_shard_terms.specs.ShardList.{ShardList, Op, store};
 
 /// What is stored stays: storing a group only adds messages at the end, and keeps the generations.
 pub fn storing_only_adds()

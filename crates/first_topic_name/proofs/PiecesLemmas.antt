@@ -1,8 +1,8 @@
 -- How pieces come from the first place of the separator, and that they join to the list again.
 use Rattle.std.proofs.Common.{◌≡◌, ◌≢◌, ℕ, zero, suc, ◌<◌, true, false, cond, eqb, List, [], ◌∷◌, length, take, drop, get_or, refl, sym, ap, ◌∙◌, arith, eq-eqb, ⊎_elim}
 use Rattle.std.proofs.lemmas.Bool.{cases_Bool, ne_eqb, eqb-true, true≢false}
-use Rattle.topic_name.specs.Pieces.{pieces, onto_first, joined}
-use Rattle.topic_name.specs.Matching.{is_last}
+use Rattle.first_topic_name.specs.Pieces.{pieces, onto_first, joined}
+use Rattle.first_topic_name.specs.Matching.{is_last}
 
 -- the first separator ends the first piece
 pub pieces_at : (b : ℕ) (xs : List ℕ) (i : ℕ) → i < length xs → get_or xs i 0 ≡ b → ((k : ℕ) → k < i → get_or xs k 0 ≢ b) → pieces b xs ≡ take i xs ∷ pieces b (drop (suc i) xs)

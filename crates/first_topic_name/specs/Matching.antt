@@ -1,7 +1,7 @@
 -- Whether a topic filter matches a topic name, level by level (MQTT 4.7).
 use Rattle.std.specs.Prelude.{ℕ, Bool, true, false, ◌&&◌, ◌||◌, not, ◌==◌, List, [], ◌∷◌, refl, ◌≡◌, codes}
 use Rattle.std.specs.Str.{bytes_eq}
-use Rattle.topic_name.specs.Pieces.{levels_of}
+use Rattle.first_topic_name.specs.Pieces.{levels_of}
 
 -- the multi-level wildcard `#` (MQTT 4.7.1.2)
 abbrev pub is_hash : List ℕ → Bool

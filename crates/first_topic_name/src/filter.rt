@@ -1,14 +1,14 @@
 ghost use Rattle.std.specs.Prelude.{◌≡◌, IfOk, [], ◌&&◌, ◌||◌};
 ghost use Rattle.std.specs.Option.{option_copied};
 ghost use Rattle.std.specs.Str.{bytes_eq};
-ghost use Rattle.topic_name.specs.Pieces.{levels_of, text_of_levels, pieces_after};
-ghost use Rattle.topic_name.specs.Matching.{filter_matches, levels_match, is_hash, is_plus, is_last, begins_wild, begins_dollar};
+ghost use Rattle.first_topic_name.specs.Pieces.{levels_of, text_of_levels, pieces_after};
+ghost use Rattle.first_topic_name.specs.Matching.{filter_matches, levels_match, is_hash, is_plus, is_last, begins_wild, begins_dollar};
 
-use crate::name::Name;
 use crate::pieces::first_piece;
 use crate::topic::Topic;
 use std::alloc::AllocError;
 use std::marker::Model;
+use topic_name::Name;
 
 /// A topic filter, seen as its levels (MQTT 4.7).
 #[derive(Debug, Drop)]
@@ -21,7 +21,7 @@ impl Model for Filter {
 
     ghost Value = { List (List ℕ) };
 
-    ghost use Rattle.topic_name.specs.Pieces.{levels_of};
+    ghost use Rattle.first_topic_name.specs.Pieces.{levels_of};
 
     ghost view = { λ f. levels_of f.name };
 }

@@ -1,9 +1,8 @@
 ghost use Rattle.std.specs.Prelude.{◌≡◌, ◌<◌, None};
 
-use crate::blob::Blob;
-use crate::name::Name;
 use crate::topic::Topic;
 use std::marker::Model;
+use topic_name::{Blob, Name};
 
 /// A publish as a shard stores it: once, for all sessions. Its offset is below the greatest u64. Contracts see a
 /// `StoredMessage`.
@@ -22,7 +21,7 @@ pub struct Message {
 
 impl Model for Message {
     ghost use Rattle.std.specs.Prelude.{None, ◌<◌};
-    ghost use Rattle.topic_name.specs.StoredMessage.{StoredMessage};
+    ghost use Rattle.first_topic_name.specs.StoredMessage.{StoredMessage};
 
     ghost Value = { StoredMessage };
 

@@ -1,6 +1,6 @@
 ghost use Rattle.std.specs.Prelude.{◌≡◌, ◌≢◌, ◌∷◌, ◌<◌, ◌≤◌, ℕ, length, IfSome, slice_index};
 ghost use Rattle.std.specs.Option.{option_copied};
-ghost use Rattle.topic_name.specs.Pieces.{pieces, pieces_after};
+ghost use Rattle.first_topic_name.specs.Pieces.{pieces, pieces_after};
 
 /// The bytes before the first separator, and those behind it; `None` where no separator is there.
 #[tactic(auto, using(crate::proofs::PiecesLemmas::pieces_at, crate::proofs::PiecesLemmas::pieces_whole))]

@@ -1,7 +1,8 @@
 // Copies with ample memory, and the examples that MQTT gives for filters.
-use crate::{Blob, Filter, Name, Topic, matches};
+use crate::{Filter, Topic, matches};
 use std::alloc::{AllocError, Global};
 use std::test::Fail;
+use topic_name::Name;
 
 fn topic(alloc: Global, text: &str) -> Result<Topic, AllocError> {
     let name = Name::of(alloc, text)?;
@@ -11,22 +12,6 @@ fn topic(alloc: Global, text: &str) -> Result<Topic, AllocError> {
 fn filter(alloc: Global, text: &str) -> Result<Filter, AllocError> {
     let name = Name::of(alloc, text)?;
     Ok(Filter::of(name))
-}
-
-#[test]
-fn a_name_is_copied(rt: HostRuntime) -> Result<(), Fail> {
-    let name = Name::of(rt.alloc(), "sensor")?;
-    let copy = name.copy()?;
-    assert_eq!(rt; copy.text(), "sensor");
-    Ok(())
-}
-
-#[test]
-fn a_body_is_copied(rt: HostRuntime) -> Result<(), Fail> {
-    let blob = Blob::of(rt.alloc(), b"21.5")?;
-    let copy = blob.copy()?;
-    assert_eq!(rt; copy.bytes(), b"21.5".as_slice());
-    Ok(())
 }
 
 #[test]

@@ -1,9 +1,9 @@
 ghost use Rattle.std.specs.Prelude.{◌≡◌, IfOk};
-ghost use Rattle.topic_name.specs.Pieces.{levels_of, text_of_levels};
+ghost use Rattle.first_topic_name.specs.Pieces.{levels_of, text_of_levels};
 
-use crate::name::Name;
 use std::alloc::AllocError;
 use std::marker::Model;
+use topic_name::Name;
 
 /// A topic name, seen as its levels (MQTT 4.7).
 #[derive(Debug, Drop)]
@@ -16,7 +16,7 @@ impl Model for Topic {
 
     ghost Value = { List (List ℕ) };
 
-    ghost use Rattle.topic_name.specs.Pieces.{levels_of};
+    ghost use Rattle.first_topic_name.specs.Pieces.{levels_of};
 
     ghost view = { λ t. levels_of t.name };
 }

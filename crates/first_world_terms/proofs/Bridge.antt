@@ -1,8 +1,8 @@
 -- A world between two lines keeps what the plain broker keeps.
 use Rattle.std.proofs.Common.{refl}
-use Rattle.world_terms.specs.PlainBroker.{PlainBroker}
-use Rattle.world_terms.proofs.PlainRuns.{Ghost, Fits, world_with}
-use Rattle.world_terms.proofs.Prefixes.{KeepsSame}
+use Rattle.first_world_terms.specs.PlainBroker.{PlainBroker}
+use Rattle.first_world_terms.proofs.PlainRuns.{Ghost, Fits, world_with}
+use Rattle.first_world_terms.proofs.Prefixes.{KeepsSame}
 
 pub KeepsSame-between : (p : PlainBroker) (g : Ghost) → Fits p g → KeepsSame (world_with p.messages p.connections g) p
 KeepsSame-between p g f =

@@ -3,23 +3,23 @@ use Rattle.std.proofs.Common.{◌≡◌, ℕ, zero, suc, ◌+◌, ◌≤◌, Boo
 use Rattle.std.proofs.lemmas.List.{map-append, length-append}
 use Rattle.std.proofs.lemmas.List.Elements.{filter-append}
 use Rattle.std.proofs.lemmas.Bool.{eq-eqb, le-leb}
-use Rattle.topic_name.specs.StoredMessage.{StoredMessage}
-use Rattle.topic_name.specs.Matching.{filter_matches}
-use Rattle.shard_terms.specs.declared.sweep.Sweep.{Sweep}
-use Rattle.shard_terms.specs.ShardList.{next_of}
-use Rattle.shard_terms.specs.Wanted.{is_wanted}
-use Rattle.shard_terms.specs.SweepOrder.{run_or_else, starting_sweep, sweep_after}
-use Rattle.session_terms.specs.declared.entry.Entry.{Entry}
-use Rattle.session_terms.specs.declared.entry.Version.{Version}
-use Rattle.session_terms.specs.declared.entry.Kind.{Kind}
-use Rattle.mqtt_packet.specs.declared.packet.Packet.{Packet}
-use Rattle.session_terms.specs.PlainSession.{PlainSession, Subscription, begun_session, issued1_of, issued2_of, version_numbered}
-use Rattle.session_terms.specs.Change.{parted_session, subscribed_session, issued_session, swept_subscription}
-use Rattle.session_core.specs.PlainConnection.{PlainConnection}
-use Rattle.session_core.specs.Pump.{Due, Reader, Issue, Pair, batch_within, batch_of, due_of, issue_under, or_else, first_issue, pump_limit, pairs_with, pairs_after, is_behind, pump_of}
-use Rattle.world_terms.specs.PlainBroker.{list_with}
-use Rattle.world_terms.proofs.Offsets.{Numbered, passing_below, passing_between, offset_behind, offset_behind-within, passing_below-between, passing_below-after, passing_below-push, passing_below-start}
-use Rattle.world_terms.proofs.Topics.{offsets}
+use Rattle.first_topic_name.specs.StoredMessage.{StoredMessage}
+use Rattle.first_topic_name.specs.Matching.{filter_matches}
+use Rattle.first_shard_terms.specs.declared.sweep.Sweep.{Sweep}
+use Rattle.first_shard_terms.specs.ShardList.{next_of}
+use Rattle.first_shard_terms.specs.Wanted.{is_wanted}
+use Rattle.first_shard_terms.specs.SweepOrder.{run_or_else, starting_sweep, sweep_after}
+use Rattle.first_session_terms.specs.declared.entry.Entry.{Entry}
+use Rattle.first_session_terms.specs.declared.entry.Version.{Version}
+use Rattle.first_session_terms.specs.declared.entry.Kind.{Kind}
+use Rattle.first_mqtt_packet.specs.declared.packet.Packet.{Packet}
+use Rattle.first_session_terms.specs.PlainSession.{PlainSession, Subscription, begun_session, issued1_of, issued2_of, version_numbered}
+use Rattle.first_session_terms.specs.Change.{parted_session, subscribed_session, issued_session, swept_subscription}
+use Rattle.first_session_core.specs.PlainConnection.{PlainConnection}
+use Rattle.first_session_core.specs.Pump.{Due, Reader, Issue, Pair, batch_within, batch_of, due_of, issue_under, or_else, first_issue, pump_limit, pairs_with, pairs_after, is_behind, pump_of}
+use Rattle.first_world_terms.specs.PlainBroker.{list_with}
+use Rattle.first_world_terms.proofs.Offsets.{Numbered, passing_below, passing_between, offset_behind, offset_behind-within, passing_below-between, passing_below-after, passing_below-push, passing_below-start}
+use Rattle.first_world_terms.proofs.Topics.{offsets}
 
 -- a sweep of the one generation, in its one stream
 abbrev pub sweep_at : ℕ → ℕ → ℕ → Sweep

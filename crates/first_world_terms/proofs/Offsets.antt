@@ -2,7 +2,7 @@
 use Rattle.std.proofs.Common.{◌≡◌, ℕ, zero, suc, ◌+◌, ◌≤◌, Bool, true, false, ◌&&◌, nat_lt, nat_le, List, [], ◌∷◌, ◌++◌, length, take, refl, sym, arith, filter, append-nil}
 use Rattle.std.proofs.lemmas.Bool.{and_right, and_left, le-ltb}
 use Rattle.std.proofs.lemmas.Bool.Decides.{nat_tests}
-use Rattle.topic_name.specs.StoredMessage.{StoredMessage}
+use Rattle.first_topic_name.specs.StoredMessage.{StoredMessage}
 
 -- the messages have consecutive offsets from this number on
 abbrev pub Numbered : ℕ → List StoredMessage → Type 0

@@ -2,25 +2,25 @@
 use Rattle.std.proofs.Common.{◌≡◌, ℕ, ◌+◌, Bool, true, false, cond, ◌&&◌, ◌==◌, List, [], ◌∷◌, ◌++◌, length, Option, Some, None, is_some, refl, sym, ap, ap₂, ◌∙◌, subst, arith}
 use Rattle.std.proofs.lemmas.List.{append-nil, length-append}
 use Rattle.std.specs.Str.{bytes_eq}
-use Rattle.topic_name.specs.StoredMessage.{StoredMessage}
-use Rattle.shard_terms.specs.ShardList.{ShardList, Awaited, store, next_of}
-use Rattle.session_terms.specs.PlainSession.{PlainSession, begun_session}
-use Rattle.session_terms.specs.Change.{Change, Began, Parted, Subscribed, Issued, session_of, on_session, act, act_all}
-use Rattle.session_terms.proofs.Changes.{act_all-append}
-use Rattle.mqtt_packet.specs.declared.props.Prop.{Prop}
-use Rattle.mqtt_packet.specs.declared.packet.Packet.{Packet}
-use Rattle.mqtt_packet.specs.declared.packet.Packet.TheVariants.{Connect, Connack, Publish, Puback, Subscribe, Suback, Disconnect}
-use Rattle.mqtt_packet.specs.Reading.{packet_of}
-use Rattle.session_core.specs.PlainConnection.{PlainConnection, expiry_of}
-use Rattle.session_core.specs.Pump.{Issue, pump_of}
-use Rattle.session_core.specs.SessionStep.{refusal_of, ops_of, changes_of, replies_of}
-use Rattle.world_terms.specs.Script.{Line, Nothing, Open, Send, Pump, line_of}
-use Rattle.world_terms.specs.World.{World, Worker, PendingRecord, Answer, Replies, Delivers, Delivered, BoundHere, one_of_each}
-use Rattle.world_terms.specs.Move.{Move, Store, Show, View, BeginCommit, Commit, Emit, OfPacket, Out, Sent, Closed, connection_at, session_under, owed_by, begins, begun_by, begun, commit_begun_under, on_worker, on_shard, after_moves, outs_of_moves, outs_if_bound, pumped_by, outs_of_answer, acked_by, history_of, pump_record, record_of_issue, packet_record, record_if_any}
-use Rattle.world_terms.specs.Turn.{State, opening_state, Turn, no_turn, moves_only, turn_away, waits, view_all, first_turn, close_moves, taken_moves, packet_moves, bound_moves, bound_turn, send_turn, pump_turn, open_turn, turn_of, connection_of_line, lobby_after, after_line, outs_of_turn, outs_of_line}
-use Rattle.world_terms.specs.Text.{text_of_outs}
-use Rattle.world_terms.specs.Run.{line_or_nothing, after_lines, text_of_lines}
-use Rattle.world_terms.specs.PlainBroker.{PlainBroker, Step, empty_broker, list_with, nothing_done, without, opened, turned_away, first_packet, refused, changed, taken, refused_or_taken, bound_packet, sent_bound, sent, issued, pumped, plain_step, plain_after, plain_text}
+use Rattle.first_topic_name.specs.StoredMessage.{StoredMessage}
+use Rattle.first_shard_terms.specs.ShardList.{ShardList, Awaited, store, next_of}
+use Rattle.first_session_terms.specs.PlainSession.{PlainSession, begun_session}
+use Rattle.first_session_terms.specs.Change.{Change, Began, Parted, Subscribed, Issued, session_of, on_session, act, act_all}
+use Rattle.first_session_terms.proofs.Changes.{act_all-append}
+use Rattle.first_mqtt_packet.specs.declared.props.Prop.{Prop}
+use Rattle.first_mqtt_packet.specs.declared.packet.Packet.{Packet}
+use Rattle.first_mqtt_packet.specs.declared.packet.Packet.TheVariants.{Connect, Connack, Publish, Puback, Subscribe, Suback, Disconnect}
+use Rattle.first_mqtt_packet.specs.Reading.{packet_of}
+use Rattle.first_session_core.specs.PlainConnection.{PlainConnection, expiry_of}
+use Rattle.first_session_core.specs.Pump.{Issue, pump_of}
+use Rattle.first_session_core.specs.SessionStep.{refusal_of, ops_of, changes_of, replies_of}
+use Rattle.first_world_terms.specs.Script.{Line, Nothing, Open, Send, Pump, line_of}
+use Rattle.first_world_terms.specs.World.{World, Worker, PendingRecord, Answer, Replies, Delivers, Delivered, BoundHere, one_of_each}
+use Rattle.first_world_terms.specs.Move.{Move, Store, Show, View, BeginCommit, Commit, Emit, OfPacket, Out, Sent, Closed, connection_at, session_under, owed_by, begins, begun_by, begun, commit_begun_under, on_worker, on_shard, after_moves, outs_of_moves, outs_if_bound, pumped_by, outs_of_answer, acked_by, history_of, pump_record, record_of_issue, packet_record, record_if_any}
+use Rattle.first_world_terms.specs.Turn.{State, opening_state, Turn, no_turn, moves_only, turn_away, waits, view_all, first_turn, close_moves, taken_moves, packet_moves, bound_moves, bound_turn, send_turn, pump_turn, open_turn, turn_of, connection_of_line, lobby_after, after_line, outs_of_turn, outs_of_line}
+use Rattle.first_world_terms.specs.Text.{text_of_outs}
+use Rattle.first_world_terms.specs.Run.{line_or_nothing, after_lines, text_of_lines}
+use Rattle.first_world_terms.specs.PlainBroker.{PlainBroker, Step, empty_broker, list_with, nothing_done, without, opened, turned_away, first_packet, refused, changed, taken, refused_or_taken, bound_packet, sent_bound, sent, issued, pumped, plain_step, plain_after, plain_text}
 
 -- what the world keeps between two lines and the plain broker doesn't
 pub record Ghost : Type 0 where

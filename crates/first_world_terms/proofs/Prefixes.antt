@@ -3,30 +3,30 @@ use Rattle.std.proofs.Common.{◌≡◌, ℕ, zero, suc, ◌+◌, Bool, true, fa
 use Rattle.std.proofs.lemmas.Slice.Eq.{bytes_eq-Decides}
 use Rattle.std.specs.List.{Contains, All, AllByRecursion}
 use Rattle.std.proofs.lemmas.List.Elements.{All-contains, All-from_recursion, All-same, All-nil, All-cons}
-use Rattle.topic_name.specs.StoredMessage.{StoredMessage}
-use Rattle.shard_terms.specs.Wanted.{is_wanted, same_topic}
-use Rattle.session_terms.specs.PlainSession.{PlainSession, Subscription}
-use Rattle.session_terms.specs.Change.{session_of, on_session, act_all, parted_session}
-use Rattle.session_terms.specs.IssuedPrefix.{IsIssuedPrefix}
-use Rattle.mqtt_packet.specs.declared.packet.Packet.{Packet}
-use Rattle.mqtt_packet.specs.declared.packet.Wish.{Wish}
-use Rattle.mqtt_packet.specs.declared.packet.Packet.TheVariants.{Connect, Connack, Publish, Puback, Subscribe, Suback, Disconnect}
-use Rattle.session_core.specs.PlainConnection.{PlainConnection, expiry_of}
-use Rattle.shard_terms.specs.ShardList.{ShardList, Awaited}
-use Rattle.topic_name.specs.Pieces.{levels_of}
-use Rattle.mqtt_packet.specs.Reading.{packet_of, packet_in, body_after, connect_in, subscribe_in, publish_in, is_connect, is_subscribe, is_publish}
-use Rattle.session_core.specs.Pump.{Issue, pump_of}
-use Rattle.session_core.specs.SessionStep.{refusal_of, refusal_of_subscribe}
-use Rattle.world_terms.specs.Script.{Line, Nothing, Open, Send, Pump, line_of}
-use Rattle.world_terms.specs.Turn.{waits}
-use Rattle.world_terms.specs.Run.{line_or_nothing}
-use Rattle.world_terms.specs.World.{World, Shard, Worker, sessions_of}
-use Rattle.world_terms.specs.Laws.{IssuesPrefixes}
-use Rattle.world_terms.specs.Move.{session_under, owed_by, connection_at}
-use Rattle.world_terms.specs.PlainBroker.{PlainBroker, Step, empty_broker, list_with, session_on, ended, opened, turned_away, first_packet, taken, refused_or_taken, bound_packet, sent_bound, issued, pumped, plain_step, plain_after}
-use Rattle.world_terms.proofs.Offsets.{Numbered, Numbered-push}
-use Rattle.world_terms.proofs.Topics.{offsets_begin, passes_at}
-use Rattle.world_terms.proofs.Following.{InStep, idle, following, Follower, Follows, subscription_of, InStep-begun, InStep-parted, InStep-push, InStep-subscribed, IssueInStep, IssueInStep-pump}
+use Rattle.first_topic_name.specs.StoredMessage.{StoredMessage}
+use Rattle.first_shard_terms.specs.Wanted.{is_wanted, same_topic}
+use Rattle.first_session_terms.specs.PlainSession.{PlainSession, Subscription}
+use Rattle.first_session_terms.specs.Change.{session_of, on_session, act_all, parted_session}
+use Rattle.first_session_terms.specs.IssuedPrefix.{IsIssuedPrefix}
+use Rattle.first_mqtt_packet.specs.declared.packet.Packet.{Packet}
+use Rattle.first_mqtt_packet.specs.declared.packet.Wish.{Wish}
+use Rattle.first_mqtt_packet.specs.declared.packet.Packet.TheVariants.{Connect, Connack, Publish, Puback, Subscribe, Suback, Disconnect}
+use Rattle.first_session_core.specs.PlainConnection.{PlainConnection, expiry_of}
+use Rattle.first_shard_terms.specs.ShardList.{ShardList, Awaited}
+use Rattle.first_topic_name.specs.Pieces.{levels_of}
+use Rattle.first_mqtt_packet.specs.Reading.{packet_of, packet_in, body_after, connect_in, subscribe_in, publish_in, is_connect, is_subscribe, is_publish}
+use Rattle.first_session_core.specs.Pump.{Issue, pump_of}
+use Rattle.first_session_core.specs.SessionStep.{refusal_of, refusal_of_subscribe}
+use Rattle.first_world_terms.specs.Script.{Line, Nothing, Open, Send, Pump, line_of}
+use Rattle.first_world_terms.specs.Turn.{waits}
+use Rattle.first_world_terms.specs.Run.{line_or_nothing}
+use Rattle.first_world_terms.specs.World.{World, Shard, Worker, sessions_of}
+use Rattle.first_world_terms.specs.Laws.{IssuesPrefixes}
+use Rattle.first_world_terms.specs.Move.{session_under, owed_by, connection_at}
+use Rattle.first_world_terms.specs.PlainBroker.{PlainBroker, Step, empty_broker, list_with, session_on, ended, opened, turned_away, first_packet, taken, refused_or_taken, bound_packet, sent_bound, issued, pumped, plain_step, plain_after}
+use Rattle.first_world_terms.proofs.Offsets.{Numbered, Numbered-push}
+use Rattle.first_world_terms.proofs.Topics.{offsets_begin, passes_at}
+use Rattle.first_world_terms.proofs.Following.{InStep, idle, following, Follower, Follows, subscription_of, InStep-begun, InStep-parted, InStep-push, InStep-subscribed, IssueInStep, IssueInStep-pump}
 
 -- of one subscription
 prefix_of : (messages : List StoredMessage) (m : PlainSession) (f : Follower) (shard start : ℕ) (topic : List (List ℕ))

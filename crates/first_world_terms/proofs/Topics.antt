@@ -4,8 +4,8 @@ use Rattle.std.specs.List.{list_any, AllByRecursion}
 use Rattle.std.proofs.lemmas.List.{map-append}
 use Rattle.std.proofs.lemmas.List.Elements.{filter-append}
 use Rattle.std.proofs.lemmas.Bool.Decides.{nat_tests}
-use Rattle.topic_name.specs.StoredMessage.{StoredMessage}
-use Rattle.world_terms.proofs.Offsets.{Numbered, passing_below, passing_below-rest}
+use Rattle.first_topic_name.specs.StoredMessage.{StoredMessage}
+use Rattle.first_world_terms.proofs.Offsets.{Numbered, passing_below, passing_below-rest}
 
 -- one of the messages has this offset and passes
 abbrev pub passes_at : (StoredMessage → Bool) → List StoredMessage → ℕ → Bool

@@ -2,7 +2,7 @@
 use Rattle.std.specs.Prelude.{ℕ, zero, suc, ◌+◌, ◌≡◌, refl, List, [], ◌∷◌, ◌++◌, codes}
 use Rattle.std.specs.Fmt.{digits}
 use Rattle.hex.specs.Hex.{decode_pairs, encode_with, encode_upper}
-use Rattle.world_terms.specs.Run.{text_of_script}
+use Rattle.first_world_terms.specs.Run.{text_of_script}
 
 -- lines, each with its line feed
 abbrev lines_joined : List (List ℕ) → List ℕ

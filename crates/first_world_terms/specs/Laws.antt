@@ -1,9 +1,9 @@
 -- What holds at the end of every run of a script's lines.
 use Rattle.std.specs.Prelude.{ℕ, ◌≡◌, List, slice_get, Some}
 use Rattle.std.specs.List.{Contains}
-use Rattle.session_terms.specs.PlainSession.{PlainSession, Subscription}
-use Rattle.session_terms.specs.IssuedPrefix.{IsIssuedPrefix}
-use Rattle.world_terms.specs.World.{World, Worker, Shard, sessions_of}
+use Rattle.first_session_terms.specs.PlainSession.{PlainSession, Subscription}
+use Rattle.first_session_terms.specs.IssuedPrefix.{IsIssuedPrefix}
+use Rattle.first_world_terms.specs.World.{World, Worker, Shard, sessions_of}
 
 -- Of each topic in each shard, every subscription of every session of a worker has been issued a prefix of the stored
 -- messages that it wants.

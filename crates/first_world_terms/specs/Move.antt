@@ -1,18 +1,18 @@
 -- The steps of the world. A move that isn't allowed changes nothing and puts nothing out.
 use Rattle.std.specs.Prelude.{ℕ, ◌+◌, ◌-◌, Bool, false, ◌&&◌, not, ◌==◌, if◌then◌else◌, List, [], ◌∷◌, ◌++◌, map, filter, slice_get, slice_set, Option, Some, None}
 use Rattle.std.specs.List.{find}
-use Rattle.shard_terms.specs.ShardList.{ShardList, store, next_of}
-use Rattle.shard_terms.specs.Capacity.{fits, is_full}
-use Rattle.session_terms.specs.PlainSession.{PlainSession}
-use Rattle.session_terms.specs.Change.{Change, Began, Parted, Issued, session_of, act_all}
-use Rattle.mqtt_packet.specs.declared.props.Prop.{Prop}
-use Rattle.mqtt_packet.specs.declared.props.Prop.TheVariants.{Byte, Two, Four}
-use Rattle.mqtt_packet.specs.declared.packet.Packet.{Packet}
-use Rattle.mqtt_packet.specs.declared.packet.Packet.TheVariants.{Connect, Connack, Publish, Puback, Subscribe, Suback, Disconnect}
-use Rattle.session_core.specs.PlainConnection.{PlainConnection, bound_connection, expiry_of}
-use Rattle.session_core.specs.Pump.{Issue, pump_of, pumped_connection}
-use Rattle.session_core.specs.SessionStep.{changes_of, ops_of, replies_of}
-use Rattle.world_terms.specs.World.{World, Shard, Worker, Group, PendingRecord, Answer, Replies, Stored, Delivers, Delivered, BoundHere, DeliveredOn, sessions_of}
+use Rattle.first_shard_terms.specs.ShardList.{ShardList, store, next_of}
+use Rattle.first_shard_terms.specs.Capacity.{fits, is_full}
+use Rattle.first_session_terms.specs.PlainSession.{PlainSession}
+use Rattle.first_session_terms.specs.Change.{Change, Began, Parted, Issued, session_of, act_all}
+use Rattle.first_mqtt_packet.specs.declared.props.Prop.{Prop}
+use Rattle.first_mqtt_packet.specs.declared.props.Prop.TheVariants.{Byte, Two, Four}
+use Rattle.first_mqtt_packet.specs.declared.packet.Packet.{Packet}
+use Rattle.first_mqtt_packet.specs.declared.packet.Packet.TheVariants.{Connect, Connack, Publish, Puback, Subscribe, Suback, Disconnect}
+use Rattle.first_session_core.specs.PlainConnection.{PlainConnection, bound_connection, expiry_of}
+use Rattle.first_session_core.specs.Pump.{Issue, pump_of, pumped_connection}
+use Rattle.first_session_core.specs.SessionStep.{changes_of, ops_of, replies_of}
+use Rattle.first_world_terms.specs.World.{World, Shard, Worker, Group, PendingRecord, Answer, Replies, Stored, Delivers, Delivered, BoundHere, DeliveredOn, sessions_of}
 
 -- what a record is about: a packet of a bound connection, its pump, or the CONNECT of a connection that isn't bound yet
 pub data Cause : Type 0 where

@@ -1,21 +1,21 @@
 -- What a broker in memory keeps of the world between two lines, and what a line does to it. It has no moves and no
 -- history: a law says that its runs are the runs of the world.
 use Rattle.std.specs.Prelude.{ℕ, ◌+◌, false, not, ◌==◌, if◌then◌else◌, List, [], ◌∷◌, ◌++◌, length, filter, Option, Some, None, is_some}
-use Rattle.topic_name.specs.StoredMessage.{StoredMessage}
-use Rattle.shard_terms.specs.ShardList.{ShardList, opening_list, store}
-use Rattle.session_terms.specs.PlainSession.{PlainSession, begun_session}
-use Rattle.session_terms.specs.Change.{Change, Issued, session_of, act, act_all}
-use Rattle.mqtt_packet.specs.declared.packet.Packet.{Packet}
-use Rattle.mqtt_packet.specs.declared.packet.Packet.TheVariants.{Connect, Connack, Publish, Puback, Subscribe, Suback, Disconnect}
-use Rattle.mqtt_packet.specs.Reading.{packet_of}
-use Rattle.session_core.specs.PlainConnection.{PlainConnection, bound_connection, expiry_of}
-use Rattle.session_core.specs.Pump.{Issue, pump_of, pumped_connection}
-use Rattle.session_core.specs.SessionStep.{refusal_of, ops_of, changes_of, replies_of}
-use Rattle.world_terms.specs.Script.{Line, Nothing, Open, Send, Pump, line_of}
-use Rattle.world_terms.specs.Move.{Out, Sent, Closed, connack, connection_at, without_connection, change_connection, session_under, owed_by, sent_on}
-use Rattle.world_terms.specs.Turn.{waits}
-use Rattle.world_terms.specs.Run.{line_or_nothing}
-use Rattle.world_terms.specs.Text.{text_of_outs}
+use Rattle.first_topic_name.specs.StoredMessage.{StoredMessage}
+use Rattle.first_shard_terms.specs.ShardList.{ShardList, opening_list, store}
+use Rattle.first_session_terms.specs.PlainSession.{PlainSession, begun_session}
+use Rattle.first_session_terms.specs.Change.{Change, Issued, session_of, act, act_all}
+use Rattle.first_mqtt_packet.specs.declared.packet.Packet.{Packet}
+use Rattle.first_mqtt_packet.specs.declared.packet.Packet.TheVariants.{Connect, Connack, Publish, Puback, Subscribe, Suback, Disconnect}
+use Rattle.first_mqtt_packet.specs.Reading.{packet_of}
+use Rattle.first_session_core.specs.PlainConnection.{PlainConnection, bound_connection, expiry_of}
+use Rattle.first_session_core.specs.Pump.{Issue, pump_of, pumped_connection}
+use Rattle.first_session_core.specs.SessionStep.{refusal_of, ops_of, changes_of, replies_of}
+use Rattle.first_world_terms.specs.Script.{Line, Nothing, Open, Send, Pump, line_of}
+use Rattle.first_world_terms.specs.Move.{Out, Sent, Closed, connack, connection_at, without_connection, change_connection, session_under, owed_by, sent_on}
+use Rattle.first_world_terms.specs.Turn.{waits}
+use Rattle.first_world_terms.specs.Run.{line_or_nothing}
+use Rattle.first_world_terms.specs.Text.{text_of_outs}
 
 -- the messages, the sessions in order of creation, the bound connections, and those that are open and not bound yet
 pub record PlainBroker : Type 0 where

@@ -1,8 +1,8 @@
 -- A script from its bytes to the printed bytes.
 use Rattle.std.specs.Prelude.{ℕ, List, [], ◌∷◌, ◌++◌, Option, Some, None}
-use Rattle.world_terms.specs.Script.{Line, Nothing, line_of, line_texts}
-use Rattle.world_terms.specs.Turn.{State, opening_state, after_line, outs_of_line}
-use Rattle.world_terms.specs.Text.{text_of_outs}
+use Rattle.first_world_terms.specs.Script.{Line, Nothing, line_of, line_texts}
+use Rattle.first_world_terms.specs.Turn.{State, opening_state, after_line, outs_of_line}
+use Rattle.first_world_terms.specs.Text.{text_of_outs}
 
 -- a line outside the grammar does nothing; a script with one isn't run
 abbrev pub line_or_nothing : Option Line → Line

@@ -6,7 +6,7 @@ use Rattle.std.specs.Str.{bytes_eq}
 use Rattle.std.specs.Str.Parse.{digits_value}
 use Rattle.hex.specs.Hex.{decode_of}
 use Rattle.hex.specs.declared.error.FromHexError.{FromHexError}
-use Rattle.topic_name.specs.Pieces.{pieces}
+use Rattle.first_topic_name.specs.Pieces.{pieces}
 
 -- What a line does: nothing, open a connection, send bytes on it, pump it.
 pub data Line : Type 0 where

@@ -2,27 +2,27 @@
 use Rattle.std.specs.Prelude.{ℕ, ◌≡◌, refl, false, List, [], ◌∷◌, ◌++◌, codes, map, Some, None}
 use Rattle.std.specs.Fmt.{digits}
 use Rattle.hex.specs.Hex.{decode_pairs, encode_with}
-use Rattle.topic_name.specs.StoredMessage.{StoredMessage}
-use Rattle.shard_terms.specs.declared.sweep.Sweep.{Sweep}
-use Rattle.shard_terms.specs.ShardList.{ShardList, opening_list, store, Store, placed}
-use Rattle.shard_terms.specs.Wanted.{wanted, wanted_of_topic}
-use Rattle.shard_terms.specs.SweepOrder.{next_run, sweep_after}
-use Rattle.session_terms.specs.declared.entry.Entry.{Entry}
-use Rattle.session_terms.specs.declared.entry.Kind.TheVariants.{Track1}
-use Rattle.session_terms.specs.PlainSession.{PlainSession, begun_session, room_of}
-use Rattle.session_terms.specs.Unfinished.{unfinished}
-use Rattle.session_terms.specs.Change.{Began, Subscribed, Issued, act_all}
-use Rattle.session_terms.specs.IssuedPrefix.{issued_of_topic}
-use Rattle.mqtt_packet.specs.declared.packet.Packet.TheVariants.{Publish, Puback}
-use Rattle.session_core.specs.PlainConnection.{PlainConnection, bound_connection}
-use Rattle.session_core.specs.SessionStep.{published, refusal_of, replies_of}
-use Rattle.session_core.specs.Pump.{pump_of, pump_limit}
-use Rattle.world_terms.specs.Script.{Pump}
-use Rattle.world_terms.specs.World.{opening_world, one_of_each}
-use Rattle.world_terms.specs.Move.{Emit, Commit, after_moves}
-use Rattle.world_terms.specs.Move as moves
-use Rattle.world_terms.specs.Turn.{opening_state, turn_of, no_turn}
-use Rattle.world_terms.specs.PlainBroker.{empty_broker, plain_text}
+use Rattle.first_topic_name.specs.StoredMessage.{StoredMessage}
+use Rattle.first_shard_terms.specs.declared.sweep.Sweep.{Sweep}
+use Rattle.first_shard_terms.specs.ShardList.{ShardList, opening_list, store, Store, placed}
+use Rattle.first_shard_terms.specs.Wanted.{wanted, wanted_of_topic}
+use Rattle.first_shard_terms.specs.SweepOrder.{next_run, sweep_after}
+use Rattle.first_session_terms.specs.declared.entry.Entry.{Entry}
+use Rattle.first_session_terms.specs.declared.entry.Kind.TheVariants.{Track1}
+use Rattle.first_session_terms.specs.PlainSession.{PlainSession, begun_session, room_of}
+use Rattle.first_session_terms.specs.Unfinished.{unfinished}
+use Rattle.first_session_terms.specs.Change.{Began, Subscribed, Issued, act_all}
+use Rattle.first_session_terms.specs.IssuedPrefix.{issued_of_topic}
+use Rattle.first_mqtt_packet.specs.declared.packet.Packet.TheVariants.{Publish, Puback}
+use Rattle.first_session_core.specs.PlainConnection.{PlainConnection, bound_connection}
+use Rattle.first_session_core.specs.SessionStep.{published, refusal_of, replies_of}
+use Rattle.first_session_core.specs.Pump.{pump_of, pump_limit}
+use Rattle.first_world_terms.specs.Script.{Pump}
+use Rattle.first_world_terms.specs.World.{opening_world, one_of_each}
+use Rattle.first_world_terms.specs.Move.{Emit, Commit, after_moves}
+use Rattle.first_world_terms.specs.Move as moves
+use Rattle.first_world_terms.specs.Turn.{opening_state, turn_of, no_turn}
+use Rattle.first_world_terms.specs.PlainBroker.{empty_broker, plain_text}
 
 -- the topics `a/b` and `c`
 abbrev topic_ab : List (List ℕ)

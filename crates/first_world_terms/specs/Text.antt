@@ -3,8 +3,8 @@ use Rattle.std.specs.Prelude.{ℕ, List, [], ◌∷◌, ◌++◌, codes}
 use Rattle.std.specs.List.{flat_map}
 use Rattle.std.specs.Fmt.{decimal}
 use Rattle.hex.specs.Hex.{encode_upper}
-use Rattle.mqtt_packet.specs.Written.{written}
-use Rattle.world_terms.specs.Move.{Out, Sent, Closed}
+use Rattle.first_mqtt_packet.specs.Written.{written}
+use Rattle.first_world_terms.specs.Move.{Out, Sent, Closed}
 
 -- a line for each packet, and for each close by the server
 abbrev pub text_of_out : Out → List ℕ

@@ -1,16 +1,16 @@
 -- A line is a turn of one worker, or none, and a turn is a list of moves.
 use Rattle.std.specs.Prelude.{ℕ, Bool, true, false, not, ◌==◌, if◌then◌else◌, List, [], ◌∷◌, ◌++◌, filter, slice_get, Option, Some, None, is_some}
 use Rattle.std.specs.List.{list_any}
-use Rattle.session_terms.specs.PlainSession.{PlainSession}
-use Rattle.session_terms.specs.Change.{session_of}
-use Rattle.mqtt_packet.specs.declared.packet.Packet.{Packet}
-use Rattle.mqtt_packet.specs.declared.packet.Packet.TheVariants.{Connect, Connack, Publish, Puback, Subscribe, Suback, Disconnect}
-use Rattle.mqtt_packet.specs.Reading.{packet_of}
-use Rattle.session_core.specs.PlainConnection.{PlainConnection}
-use Rattle.session_core.specs.SessionStep.{refusal_of}
-use Rattle.world_terms.specs.Script.{Line, Nothing, Open, Send, Pump}
-use Rattle.world_terms.specs.World.{World, Worker, opening_world, sessions_of, one_of_each}
-use Rattle.world_terms.specs.Move.{Move, Begin, Store, Show, View, BeginCommit, Commit, Emit, Bind, Unbind, OfPacket, OfPump, OfConnect, ByClient, ByServer, Out, Closed, connection_at, session_at, after_moves, outs_of_moves}
+use Rattle.first_session_terms.specs.PlainSession.{PlainSession}
+use Rattle.first_session_terms.specs.Change.{session_of}
+use Rattle.first_mqtt_packet.specs.declared.packet.Packet.{Packet}
+use Rattle.first_mqtt_packet.specs.declared.packet.Packet.TheVariants.{Connect, Connack, Publish, Puback, Subscribe, Suback, Disconnect}
+use Rattle.first_mqtt_packet.specs.Reading.{packet_of}
+use Rattle.first_session_core.specs.PlainConnection.{PlainConnection}
+use Rattle.first_session_core.specs.SessionStep.{refusal_of}
+use Rattle.first_world_terms.specs.Script.{Line, Nothing, Open, Send, Pump}
+use Rattle.first_world_terms.specs.World.{World, Worker, opening_world, sessions_of, one_of_each}
+use Rattle.first_world_terms.specs.Move.{Move, Begin, Store, Show, View, BeginCommit, Commit, Emit, Bind, Unbind, OfPacket, OfPump, OfConnect, ByClient, ByServer, Out, Closed, connection_at, session_at, after_moves, outs_of_moves}
 
 -- The world, and the connections that are open and not bound yet, in order of opening.
 pub record State : Type 0 where

@@ -1,11 +1,11 @@
 -- All that the broker is between two steps: shards that store, workers that keep sessions.
 use Rattle.std.specs.Prelude.{ℕ, List, [], Option, None, replicate}
-use Rattle.shard_terms.specs.ShardList.{ShardList, Op, opening_list}
-use Rattle.session_terms.specs.PlainSession.{PlainSession}
-use Rattle.session_terms.specs.Change.{Change, act_all}
-use Rattle.mqtt_packet.specs.declared.packet.Packet.{Packet}
-use Rattle.session_core.specs.PlainConnection.{PlainConnection}
-use Rattle.session_core.specs.Pump.{Issue}
+use Rattle.first_shard_terms.specs.ShardList.{ShardList, Op, opening_list}
+use Rattle.first_session_terms.specs.PlainSession.{PlainSession}
+use Rattle.first_session_terms.specs.Change.{Change, act_all}
+use Rattle.first_mqtt_packet.specs.declared.packet.Packet.{Packet}
+use Rattle.first_session_core.specs.PlainConnection.{PlainConnection}
+use Rattle.first_session_core.specs.Pump.{Issue}
 
 -- How many shards and workers there are, the values that a new generation takes, and how long a sealed one is kept.
 pub record Config : Type 0 where

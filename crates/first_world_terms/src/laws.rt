@@ -1,8 +1,8 @@
 ghost use Rattle.std.specs.Prelude.{◌≡◌, List, ℕ};
-ghost use Rattle.world_terms.specs.Turn.{opening_state};
-ghost use Rattle.world_terms.specs.Run.{after_lines, text_of_lines};
-ghost use Rattle.world_terms.specs.PlainBroker.{empty_broker, plain_text};
-ghost use Rattle.world_terms.specs.Laws.{IssuesPrefixes};
+ghost use Rattle.first_world_terms.specs.Turn.{opening_state};
+ghost use Rattle.first_world_terms.specs.Run.{after_lines, text_of_lines};
+ghost use Rattle.first_world_terms.specs.PlainBroker.{empty_broker, plain_text};
+ghost use Rattle.first_world_terms.specs.Laws.{IssuesPrefixes};
 
 /// The text of a run of the world is what the plain broker prints, whatever the lines.
 pub fn plain_runs_are_runs()

@@ -1,7 +1,7 @@
 -- The first line outside the grammar, line by line.
 use Rattle.std.proofs.Common.{◌≡◌, ℕ, ◌+◌, true, false, List, ◌∷◌, Option, Some, None, is_some, refl}
 use Rattle.std.proofs.lemmas.Bool.{true≢false, false≢true}
-use Rattle.world_terms.specs.Script.{Line, bad_line_under, first_bad_line, line_of}
+use Rattle.first_world_terms.specs.Script.{Line, bad_line_under, first_bad_line, line_of}
 
 under_line : (n : ℕ) (o : Option Line) (later : Option ℕ) → is_some o ≡ true → bad_line_under n o later ≡ later
 under_line n (Some line) later h = refl

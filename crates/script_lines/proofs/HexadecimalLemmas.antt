@@ -9,7 +9,7 @@ use Rattle.std.specs.Result.{is_ok}
 use Rattle.hex.specs.Hex.{decode_of, encode_with, is_hex_digit}
 use Rattle.hex.specs.declared.error.FromHexError.{FromHexError}
 use Rattle.hex.proofs.HexLemmas.{decode_of-digits, decode_of-ok}
-use Rattle.world_terms.specs.Script.{hex_of, bytes_or_none}
+use Rattle.first_world_terms.specs.Script.{hex_of, bytes_or_none}
 
 some_if_ok : (r : Result (List ℕ) FromHexError) → is_some (bytes_or_none r) ≡ is_ok r
 some_if_ok (Ok bytes) = refl

@@ -3,7 +3,7 @@ use Rattle.std.proofs.Common.{◌≡◌, ◌≢◌, ℕ, ◌+◌, ◌*◌, ◌-�
 use Rattle.std.proofs.lemmas.List.{at_drop_more, at_drop_all}
 use Rattle.std.specs.Char.{is_ascii_digit, digit_value}
 use Rattle.std.specs.Str.Parse.{digits_value_after}
-use Rattle.world_terms.specs.Script.{connection_of}
+use Rattle.first_world_terms.specs.Script.{connection_of}
 use Rattle.script_lines.specs.Digits.{number_after}
 
 -- further digits make no number smaller

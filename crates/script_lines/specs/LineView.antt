@@ -4,8 +4,8 @@ use Rattle.script_lines.specs.declared.line.Line.{Line}
 use Rattle.script_lines.specs.declared.line.Line.TheVariants.{Nothing, Open, Send, Pump}
 use Rattle.script_lines.specs.declared.parts.Parts.{Parts}
 use Rattle.script_lines.specs.declared.parts.Parts.TheVariants.{NoWords, OpenWords, SendWords, PumpWords}
-use Rattle.world_terms.specs.Script.{hex_of, send_of}
-use Rattle.world_terms.specs.Script as script
+use Rattle.first_world_terms.specs.Script.{hex_of, send_of}
+use Rattle.first_world_terms.specs.Script as script
 
 -- the same line, with the bytes of a vector as a list
 abbrev pub line_of_fields : Line → script.Line

@@ -1,8 +1,8 @@
 ghost use Rattle.std.specs.Prelude.{◌≡◌};
-ghost use Rattle.world_terms.specs.Script.{first_bad_line, line_texts};
+ghost use Rattle.first_world_terms.specs.Script.{first_bad_line, line_texts};
 
 use crate::line::is_line;
-use topic_name::first_piece;
+use first_topic_name::first_piece;
 
 /// The number, from 1 on, of the first line outside the grammar; `None` where each is a line.
 #[tactic(auto, using(crate::proofs::BadLineLemmas::line_steps))]

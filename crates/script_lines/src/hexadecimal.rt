@@ -2,7 +2,7 @@ ghost use Rattle.std.specs.Prelude.{◌≡◌, IfOk};
 ghost use Rattle.std.specs.List.{list_all};
 ghost use Rattle.std.specs.Option.{is_some, option_map};
 ghost use Rattle.hex.specs.Hex.{is_hex_digit};
-ghost use Rattle.world_terms.specs.Script.{hex_of};
+ghost use Rattle.first_world_terms.specs.Script.{hex_of};
 
 use hex::FromHexError;
 use std::alloc::{AllocError, Global};

@@ -1,7 +1,7 @@
 ghost use Rattle.std.specs.Prelude.{◌≡◌, IfOk};
 ghost use Rattle.std.specs.Option.{is_some, option_map};
 ghost use Rattle.script_lines.specs.LineView.{line_of_fields};
-ghost use Rattle.world_terms.specs.Script.{line_of};
+ghost use Rattle.first_world_terms.specs.Script.{line_of};
 
 use crate::hexadecimal::{is_bytes, read_bytes};
 use crate::parts::{Parts, parts_of};

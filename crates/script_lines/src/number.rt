@@ -1,5 +1,5 @@
 ghost use Rattle.std.specs.Prelude.{◌≡◌};
-ghost use Rattle.world_terms.specs.Script.{connection_of};
+ghost use Rattle.first_world_terms.specs.Script.{connection_of};
 ghost use Rattle.script_lines.specs.Digits.{number_after};
 
 /// The number of a connection, two bytes in decimal with no leading zero; `None` for another text.

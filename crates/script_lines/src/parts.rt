@@ -1,11 +1,11 @@
 ghost use Rattle.std.specs.Prelude.{◌≡◌, ◌∷◌, []};
 ghost use Rattle.std.specs.Option.{option_copied};
-ghost use Rattle.topic_name.specs.Pieces.{pieces, pieces_after};
+ghost use Rattle.first_topic_name.specs.Pieces.{pieces, pieces_after};
 ghost use Rattle.script_lines.specs.LineView.{line_of_words_found};
-ghost use Rattle.world_terms.specs.Script.{line_of, line_of_words};
+ghost use Rattle.first_world_terms.specs.Script.{line_of, line_of_words};
 
 use crate::number::read_connection;
-use topic_name::first_piece;
+use first_topic_name::first_piece;
 
 /// The words of a line: none, or a connection and what is done to it. The digits for bytes are still text.
 #[derive(Clone, Copy)]

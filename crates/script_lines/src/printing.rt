@@ -1,10 +1,10 @@
 ghost use Rattle.std.specs.Prelude.{◌≡◌, ◌++◌, OnOk};
 ghost use Rattle.std.specs.Fmt.{decimal};
 ghost use Rattle.hex.specs.Hex.{encode_upper};
-ghost use Rattle.world_terms.specs.Move.{Sent, Closed};
-ghost use Rattle.world_terms.specs.Text.{text_of_out};
+ghost use Rattle.first_world_terms.specs.Move.{Sent, Closed};
+ghost use Rattle.first_world_terms.specs.Text.{text_of_out};
 
-use mqtt_packet::Packet;
+use first_mqtt_packet::Packet;
 use std::alloc::{AllocError, Global};
 
 /// Adds the line that is printed for a packet on a connection.
@@ -17,7 +17,7 @@ pub fn put_sent(
     ensures { OnOk result (out.new.items ≡ out.old.items ++ text_of_out (Sent connection packet.now)) }
 {
     let mut bytes = Vec::new(alloc);
-    mqtt_packet::write(alloc, packet, &mut bytes)?;
+    first_mqtt_packet::write(alloc, packet, &mut bytes)?;
     put_number(alloc, connection, out)?;
     out.extend_from_slice(b"< ")?;
     put_digits(&bytes, out)?;

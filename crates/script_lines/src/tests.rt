@@ -1,6 +1,6 @@
 // Each function once with ample memory, and lines outside the grammar.
 use crate::{first_bad, is_line, put_closed, put_sent, read_line};
-use mqtt_packet::{Packet, Props};
+use first_mqtt_packet::{Packet, Props};
 use std::test::Fail;
 
 #[test]

@@ -1,6 +1,6 @@
 use Rattle.std.proofs.Common.{◌<◌, ◌≤◌, ℕ, List, length, set, ap, subst, ◌∙◌, arith}
-use Rattle.session_terms.specs.PlainSession.{PlainSession}
-use Rattle.session_terms.specs.Change.{parted_session}
+use Rattle.first_session_terms.specs.PlainSession.{PlainSession}
+use Rattle.first_session_terms.specs.Change.{parted_session}
 use Rattle.broker_main.specs.BrokerView.{IsSessionPlace}
 use Rattle.broker_main.proofs.Places.{parts, parts_none, there, nothing_behind}
 use Rattle.broker_main.proofs.broker.part_session.Goals as goal

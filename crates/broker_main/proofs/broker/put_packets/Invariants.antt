@@ -1,6 +1,6 @@
 use Rattle.std.proofs.Common.{◌≡◌, ◌++◌, take}
-use Rattle.world_terms.specs.Move.{sent_on}
-use Rattle.world_terms.specs.Text.{text_of_outs}
+use Rattle.first_world_terms.specs.Move.{sent_on}
+use Rattle.first_world_terms.specs.Text.{text_of_outs}
 use Rattle.broker_main.proofs.broker.put_packets.Given as goal
 
 -- the lines of the packets so far

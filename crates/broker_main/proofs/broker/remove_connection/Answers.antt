@@ -1,6 +1,6 @@
 use Rattle.std.proofs.Common.{rules, eqb, not}
 use Rattle.std.proofs.lemmas.Fn.{filter_same}
-use Rattle.session_core.specs.PlainConnection.{PlainConnection}
+use Rattle.first_session_core.specs.PlainConnection.{PlainConnection}
 use Rattle.broker_main.proofs.broker.remove_connection.Goals as goal
 
 pub returns : goal.returns

@@ -1,6 +1,6 @@
 use Rattle.std.proofs.Common.{◌≡◌, ◌+◌, [], ◌∷◌, ◌++◌, length, sym, ap, subst, ◌∙◌, arith}
-use Rattle.topic_name.specs.StoredMessage.{StoredMessage}
-use Rattle.session_core.specs.SessionView.{HasOffsets}
+use Rattle.first_topic_name.specs.StoredMessage.{StoredMessage}
+use Rattle.first_session_core.specs.SessionView.{HasOffsets}
 use Rattle.broker_main.proofs.Stored.{stored_message, offsets_push, same_message}
 use Rattle.broker_main.proofs.broker.store_message.Goals as goal
 

@@ -1,5 +1,5 @@
 use Rattle.std.proofs.Common.{◌≢◌, ℕ, ◌<◌, get_or}
-use Rattle.session_core.specs.PlainConnection.{PlainConnection}
+use Rattle.first_session_core.specs.PlainConnection.{PlainConnection}
 use Rattle.broker_main.proofs.finding.place_of_connection.Given as goal
 
 -- no connection that was passed has the number

@@ -1,6 +1,6 @@
 use Rattle.std.proofs.Common.{◌≡◌, ℕ, ◌<◌, false, get_or}
 use Rattle.std.specs.Str.{bytes_eq}
-use Rattle.session_terms.specs.PlainSession.{PlainSession}
+use Rattle.first_session_terms.specs.PlainSession.{PlainSession}
 use Rattle.broker_main.proofs.finding.place_of_session.Given as goal
 
 -- no session that was passed is the client's

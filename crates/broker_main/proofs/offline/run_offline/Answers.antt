@@ -1,6 +1,6 @@
 -- Every run issues prefixes, and the text about a script that is too long tells how it was read.
 use Rattle.std.proofs.Common.{inr}
-use Rattle.world_terms.specs.Script.{line_texts}
+use Rattle.first_world_terms.specs.Script.{line_texts}
 use Rattle.broker_main.proofs.TextLemmas.{if_told}
 use Rattle.broker_main.proofs.offline.run_offline.Goals as goal
 

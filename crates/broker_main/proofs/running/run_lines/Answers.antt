@@ -1,7 +1,7 @@
 -- A turn puts what the next line prints.
 use Rattle.std.proofs.Common.{ℕ, List, [], ◌∷◌, Option, Bor, ap, ◌∙◌, arith}
 use Rattle.std.specs.Option.{option_copied}
-use Rattle.topic_name.specs.Pieces.{pieces_after}
+use Rattle.first_topic_name.specs.Pieces.{pieces_after}
 use Rattle.outside.specs.Results.{on_err}
 use Rattle.broker_main.proofs.RunningLemmas.{next_line, more_lines, all_put, front_put}
 use Rattle.broker_main.proofs.running.run_lines.Goals as goal

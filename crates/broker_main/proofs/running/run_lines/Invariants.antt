@@ -1,7 +1,7 @@
 -- What was put, and what the lines that are left print, are the whole text.
 use Rattle.std.proofs.Common.{◌≤◌, length}
-use Rattle.world_terms.specs.PlainBroker.{empty_broker, plain_text}
-use Rattle.world_terms.specs.Script.{line_texts}
+use Rattle.first_world_terms.specs.PlainBroker.{empty_broker, plain_text}
+use Rattle.first_world_terms.specs.Script.{line_texts}
 use Rattle.broker_main.proofs.RunningLemmas.{PutSoFar}
 use Rattle.broker_main.proofs.running.run_lines.Given as goal
 

@@ -1,6 +1,6 @@
 use Rattle.std.proofs.Common.{◌≡◌, drop}
-use Rattle.session_core.specs.PlainConnection.{two_of}
-use Rattle.session_core.proofs.connection.two_in.Given as goal
+use Rattle.first_session_core.specs.PlainConnection.{two_of}
+use Rattle.first_session_core.proofs.connection.two_in.Given as goal
 
 -- what is left has the answer
 abbrev pub invariant-loop-prop : goal.invariant-loop-prop

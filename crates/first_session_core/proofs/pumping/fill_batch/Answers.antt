@@ -1,15 +1,15 @@
 use Rattle.std.proofs.Common.{ℕ, ◌+◌, ◌-◌, List, ◌∷◌, ◌++◌, map, drop, sym, ap, ◌∙◌, arith}
 use Rattle.std.specs.List.{filter_map}
 use Rattle.std.specs.Borrow.{Bor}
-use Rattle.topic_name.specs.StoredMessage.{StoredMessage}
-use Rattle.session_terms.specs.declared.entry.Entry.{Entry}
-use Rattle.session_terms.specs.Entry.{count2}
-use Rattle.mqtt_packet.specs.declared.packet.Packet.{Packet}
-use Rattle.session_core.specs.Pump.{Due, batch_within}
-use Rattle.session_core.specs.SessionView.{reader_of}
-use Rattle.session_core.specs.IssuedView.{due_of_fields}
-use Rattle.session_core.proofs.Batches.{stops, goes, more_entries, more_packets, more_sweep, sweep_at, drop_run, no_more_entries, no_more_packets, no_more_sweep}
-use Rattle.session_core.proofs.pumping.fill_batch.Goals as goal
+use Rattle.first_topic_name.specs.StoredMessage.{StoredMessage}
+use Rattle.first_session_terms.specs.declared.entry.Entry.{Entry}
+use Rattle.first_session_terms.specs.Entry.{count2}
+use Rattle.first_mqtt_packet.specs.declared.packet.Packet.{Packet}
+use Rattle.first_session_core.specs.Pump.{Due, batch_within}
+use Rattle.first_session_core.specs.SessionView.{reader_of}
+use Rattle.first_session_core.specs.IssuedView.{due_of_fields}
+use Rattle.first_session_core.proofs.Batches.{stops, goes, more_entries, more_packets, more_sweep, sweep_at, drop_run, no_more_entries, no_more_packets, no_more_sweep}
+use Rattle.first_session_core.proofs.pumping.fill_batch.Goals as goal
 
 pub returns-then-due-room-clause-entries : goal.returns-then-due-room-clause-entries
 returns-then-due-room-clause-entries c =

@@ -1,11 +1,11 @@
 use Rattle.std.proofs.Common.{◌≡◌, ◌≤◌, ◌+◌, ◌++◌, length, take, drop, map}
 use Rattle.std.specs.List.{filter_map}
 use Rattle.std.specs.Borrow.{Bor}
-use Rattle.topic_name.specs.StoredMessage.{StoredMessage}
-use Rattle.shard_terms.specs.SweepOrder.{sweep_after}
-use Rattle.session_core.specs.Pump.{Due, batch_within}
-use Rattle.session_core.specs.SessionView.{sweep_of, reader_of}
-use Rattle.session_core.proofs.pumping.fill_batch.Given as goal
+use Rattle.first_topic_name.specs.StoredMessage.{StoredMessage}
+use Rattle.first_shard_terms.specs.SweepOrder.{sweep_after}
+use Rattle.first_session_core.specs.Pump.{Due, batch_within}
+use Rattle.first_session_core.specs.SessionView.{sweep_of, reader_of}
+use Rattle.first_session_core.proofs.pumping.fill_batch.Given as goal
 
 -- what is issued so far and the batch of what is left are the whole batch
 abbrev pub invariant-loop-message : goal.invariant-loop-message

@@ -1,12 +1,12 @@
 use Rattle.std.proofs.Common.{ℕ, ◌+◌, ◌-◌, ◌∷◌, map, sym, ap, ◌∙◌}
 use Rattle.std.specs.Borrow.{Bor}
-use Rattle.topic_name.specs.StoredMessage.{StoredMessage}
-use Rattle.session_terms.specs.Entry.{count2}
-use Rattle.session_core.specs.Pump.{Due, batch_within, batch_of}
-use Rattle.session_core.specs.SessionView.{reader_of}
-use Rattle.session_core.specs.IssuedView.{due_of_fields}
-use Rattle.session_core.proofs.Batches.{first_of_batch, all_entries, all_packets, all_sweep, sweep_at, same_issue}
-use Rattle.session_core.proofs.pumping.make_batch.Goals as goal
+use Rattle.first_topic_name.specs.StoredMessage.{StoredMessage}
+use Rattle.first_session_terms.specs.Entry.{count2}
+use Rattle.first_session_core.specs.Pump.{Due, batch_within, batch_of}
+use Rattle.first_session_core.specs.SessionView.{reader_of}
+use Rattle.first_session_core.specs.IssuedView.{due_of_fields}
+use Rattle.first_session_core.proofs.Batches.{first_of_batch, all_entries, all_packets, all_sweep, sweep_at, same_issue}
+use Rattle.first_session_core.proofs.pumping.make_batch.Goals as goal
 
 pub returns : goal.returns
 returns c =

@@ -2,12 +2,12 @@ use Rattle.std.proofs.Common.{◌≡◌, ◌<◌, ◌+◌, List, length, map, ta
 use Rattle.std.specs.Prelude.{filter}
 use Rattle.std.specs.Borrow.{Bor}
 use Rattle.std.proofs.lemmas.Bool.{eqb-false, eqb-true}
-use Rattle.topic_name.specs.StoredMessage.{StoredMessage}
-use Rattle.shard_terms.specs.Wanted.{is_wanted}
-use Rattle.session_core.specs.SessionView.{sweep_of}
-use Rattle.session_core.proofs.Batches.{now_of}
-use Rattle.session_core.proofs.Stretches.{nothing_issued, something_issued, made}
-use Rattle.session_core.proofs.pumping.pump_stretch.Goals as goal
+use Rattle.first_topic_name.specs.StoredMessage.{StoredMessage}
+use Rattle.first_shard_terms.specs.Wanted.{is_wanted}
+use Rattle.first_session_core.specs.SessionView.{sweep_of}
+use Rattle.first_session_core.proofs.Batches.{now_of}
+use Rattle.first_session_core.proofs.Stretches.{nothing_issued, something_issued, made}
+use Rattle.first_session_core.proofs.pumping.pump_stretch.Goals as goal
 
 pub returns-then-is_empty : goal.returns-then-is_empty
 returns-then-is_empty c =

@@ -1,10 +1,10 @@
 use Rattle.std.proofs.Common.{◌≡◌, length, sym, ap, ◌∙◌}
 use Rattle.std.proofs.lemmas.List.{length-map}
 use Rattle.std.specs.Borrow.{Bor}
-use Rattle.topic_name.specs.StoredMessage.{StoredMessage}
-use Rattle.shard_terms.specs.Wanted.{is_wanted}
-use Rattle.session_core.proofs.Fronts.{take_filter}
-use Rattle.session_core.proofs.sweep.find_wanted.Goals as goal
+use Rattle.first_topic_name.specs.StoredMessage.{StoredMessage}
+use Rattle.first_shard_terms.specs.Wanted.{is_wanted}
+use Rattle.first_session_core.proofs.Fronts.{take_filter}
+use Rattle.first_session_core.proofs.sweep.find_wanted.Goals as goal
 
 pub returns-then-len-limit : goal.returns-then-len-limit
 returns-then-len-limit c =

@@ -1,9 +1,9 @@
 use Rattle.std.proofs.Common.{◌≡◌, ◌≤◌, length, take, map}
 use Rattle.std.specs.Prelude.{filter}
 use Rattle.std.specs.Borrow.{Bor}
-use Rattle.topic_name.specs.StoredMessage.{StoredMessage}
-use Rattle.shard_terms.specs.Wanted.{is_wanted}
-use Rattle.session_core.proofs.sweep.find_wanted.Given as goal
+use Rattle.first_topic_name.specs.StoredMessage.{StoredMessage}
+use Rattle.first_shard_terms.specs.Wanted.{is_wanted}
+use Rattle.first_session_core.proofs.sweep.find_wanted.Given as goal
 
 -- the wanted messages so far, at most the limit
 abbrev pub invariant-loop-message : goal.invariant-loop-message

@@ -1,6 +1,6 @@
 use Rattle.std.proofs.Common.{◌≡◌, ◌≤◌, ◌+◌, ◌*◌, drop}
-use Rattle.session_core.specs.Pump.{quota_used}
-use Rattle.session_core.proofs.tracks.used_by.Given as goal
+use Rattle.first_session_core.specs.Pump.{quota_used}
+use Rattle.first_session_core.proofs.tracks.used_by.Given as goal
 
 -- what is counted so far and what is left are all
 abbrev pub invariant-loop-entry : goal.invariant-loop-entry

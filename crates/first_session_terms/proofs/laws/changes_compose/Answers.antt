@@ -1,5 +1,5 @@
-use Rattle.session_terms.proofs.Changes.{act_all-append}
-use Rattle.session_terms.proofs.laws.changes_compose.Goals as goal
+use Rattle.first_session_terms.proofs.Changes.{act_all-append}
+use Rattle.first_session_terms.proofs.laws.changes_compose.Goals as goal
 
 pub returns : goal.returns
 returns c = act_all-append

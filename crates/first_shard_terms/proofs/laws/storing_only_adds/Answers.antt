@@ -1,5 +1,5 @@
-use Rattle.shard_terms.proofs.Storing.{Adds-store, cuts-store}
-use Rattle.shard_terms.proofs.laws.storing_only_adds.Goals as goal
+use Rattle.first_shard_terms.proofs.Storing.{Adds-store, cuts-store}
+use Rattle.first_shard_terms.proofs.laws.storing_only_adds.Goals as goal
 
 pub returns-clause-messages : goal.returns-clause-messages
 returns-clause-messages c = Adds-store

@@ -1,5 +1,5 @@
 use Rattle.std.proofs.Common.{length}
-use Rattle.topic_name.proofs.filter.+match_levels.Given as goal
+use Rattle.first_topic_name.proofs.filter.+match_levels.Given as goal
 
 abbrev pub decreases-match_levels : goal.decreases-match_levels
 decreases-match_levels l = length l.filter.now

@@ -1,5 +1,5 @@
 use Rattle.std.proofs.Common.{◌≡◌, ℕ, ◌<◌, get_or}
-use Rattle.topic_name.proofs.pieces.place_of.Given as goal
+use Rattle.first_topic_name.proofs.pieces.place_of.Given as goal
 
 -- the separator stands at no place that was passed
 abbrev pub invariant-loop-i : goal.invariant-loop-i

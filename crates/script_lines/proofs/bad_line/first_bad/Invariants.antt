@@ -1,5 +1,5 @@
 use Rattle.std.proofs.Common.{◌≡◌, ◌+◌, ◌≤◌, length}
-use Rattle.world_terms.specs.Script.{first_bad_line, line_texts}
+use Rattle.first_world_terms.specs.Script.{first_bad_line, line_texts}
 use Rattle.script_lines.proofs.bad_line.first_bad.Given as goal
 
 -- the lines that are left, counted on from this number, give the answer for the whole

@@ -1,14 +1,14 @@
 use Rattle.std.proofs.Common.{◌≡◌, ◌<◌, ◌++◌, List, [], ◌∷◌, Some, length, sym, ap, subst, ◌∙◌, arith}
 use Rattle.std.specs.Prelude.{slice_get}
 use Rattle.std.specs.Option.{option_map}
-use Rattle.topic_name.specs.StoredMessage.{StoredMessage}
-use Rattle.session_core.specs.PlainConnection.{PlainConnection}
-use Rattle.session_core.specs.Pump.{pump_of}
-use Rattle.session_core.specs.IssuedView.{issue_of_fields}
-use Rattle.mqtt_packet.specs.declared.packet.Packet.{Packet}
-use Rattle.world_terms.specs.Move.{sent_on}
-use Rattle.world_terms.specs.Text.{text_of_outs}
-use Rattle.world_terms.specs.PlainBroker.{PlainBroker, Step, session_on, list_with}
+use Rattle.first_topic_name.specs.StoredMessage.{StoredMessage}
+use Rattle.first_session_core.specs.PlainConnection.{PlainConnection}
+use Rattle.first_session_core.specs.Pump.{pump_of}
+use Rattle.first_session_core.specs.IssuedView.{issue_of_fields}
+use Rattle.first_mqtt_packet.specs.declared.packet.Packet.{Packet}
+use Rattle.first_world_terms.specs.Move.{sent_on}
+use Rattle.first_world_terms.specs.Text.{text_of_outs}
+use Rattle.first_world_terms.specs.PlainBroker.{PlainBroker, Step, session_on, list_with}
 use Rattle.broker_main.specs.BrokerView.{IsConnectionPlace, IsWrittenAt}
 use Rattle.broker_main.proofs.Places.{there}
 use Rattle.broker_main.proofs.Pumping.{pumped_step, pumped_broker}

@@ -1,10 +1,10 @@
 use Rattle.std.proofs.Common.{◌≡◌, ◌+◌, List, ℕ, [], ◌∷◌, ◌++◌, length, refl, sym, ap, subst, ◌∙◌, arith}
-use Rattle.topic_name.specs.Pieces.{levels_of}
-use Rattle.mqtt_packet.specs.declared.packet.Packet.{Packet}
-use Rattle.mqtt_packet.specs.declared.packet.Packet.TheVariants.{Suback}
-use Rattle.world_terms.specs.Move.{Sent}
-use Rattle.world_terms.specs.Text.{text_of_outs}
-use Rattle.world_terms.specs.PlainBroker.{PlainBroker}
+use Rattle.first_topic_name.specs.Pieces.{levels_of}
+use Rattle.first_mqtt_packet.specs.declared.packet.Packet.{Packet}
+use Rattle.first_mqtt_packet.specs.declared.packet.Packet.TheVariants.{Suback}
+use Rattle.first_world_terms.specs.Move.{Sent}
+use Rattle.first_world_terms.specs.Text.{text_of_outs}
+use Rattle.first_world_terms.specs.PlainBroker.{PlainBroker}
 use Rattle.broker_main.specs.BrokerView.{IsWrittenAt}
 use Rattle.broker_main.proofs.Subscribing.{subscribed_at, granted_one}
 use Rattle.broker_main.proofs.broker.Broker.subscribe.Goals as goal

@@ -1,5 +1,5 @@
 use Rattle.std.proofs.Common.{length, ap, arith}
-use Rattle.session_core.proofs.session.Session.issued1.Goals as goal
+use Rattle.first_session_core.proofs.session.Session.issued1.Goals as goal
 
 pub returns-clause-small : goal.returns-clause-small
 returns-clause-small c =

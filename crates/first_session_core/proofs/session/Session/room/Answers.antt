@@ -1,8 +1,8 @@
 use Rattle.std.proofs.Common.{◌∙◌, ap, arith}
 use Rattle.std.specs.Prelude.{sum_by}
-use Rattle.session_terms.specs.declared.entry.Entry.{Entry}
-use Rattle.session_terms.specs.Entry.{count1, count2}
-use Rattle.session_core.proofs.session.Session.room.Goals as goal
+use Rattle.first_session_terms.specs.declared.entry.Entry.{Entry}
+use Rattle.first_session_terms.specs.Entry.{count1, count2}
+use Rattle.first_session_core.proofs.session.Session.room.Goals as goal
 
 pub returns : goal.returns
 returns c =

@@ -1,0 +1,4 @@
+pub mod Taken
+pub mod Begun
+pub mod Clauses
+pub mod FieldKinds

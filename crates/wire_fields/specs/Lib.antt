@@ -1,0 +1,11 @@
+pub mod Spelled
+pub mod Text
+pub mod Reading
+pub mod Fields
+pub mod Computing
+pub mod Examples
+pub mod Places
+pub mod NumberLaws
+pub mod VarLaws
+pub mod TextLaws
+pub mod SizedLaws
