@@ -1,0 +1,6 @@
+use Rattle.std.proofs.Common.{◌≡◌, drop}
+use Rattle.mqtt_props.specs.Lookup.{first_of, four_in}
+use Rattle.mqtt_props.proofs.lookup.four_of.Given as goal
+
+abbrev pub invariant-loop-prop : goal.invariant-loop-prop
+invariant-loop-prop l = first_of (four_in l.identifier) (drop l.prop-index l.list) ≡ first_of (four_in l.identifier) l.list

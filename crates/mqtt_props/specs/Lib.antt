@@ -1,0 +1,12 @@
+pub mod Table
+pub mod Prop
+pub mod Reading
+pub mod Props
+pub mod Lookup
+pub mod Examples
+pub mod TypeLaws
+pub mod OrderLaws
+pub mod EachLaws
+pub mod KeptLaws
+pub mod SpelledLaws
+pub mod FoundLaws

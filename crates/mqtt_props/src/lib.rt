@@ -1,0 +1,42 @@
+//! The properties of MQTT 5.0 packets and wills, read and written (MQTT 2.2.2).
+//!
+//!     let props = read(alloc, Holder::Publish, &[9, 0x26, 0, 1, b'a', 0, 1, b'b', 1, 1])?;
+//!     let expiry = props.message_expiry(); // None
+//!     write(&props, &mut out)?; // 9, 1, 1, 0x26, 0, 1, b'a', 0, 1, b'b'
+//!
+//! A list is read in any order, and kept and written by ascending identifier, equal ones in their order. A refusal is
+//! `Unknown`, `Misplaced` or `Spelling`, by what comes first in the bytes, the length in front before all; where none
+//! of these stands it is `Repeated`, and else `BadValue`. What was written is read again as the same list, and what was
+//! read was spelled so. A list may stand without its length in front too, as a stored message keeps it.
+//!
+//! Read `specs/Table.antt` first, the types of properties and what each may stand in, then `specs/Prop.antt`, how one
+//! is spelled, `specs/Reading.antt` and `specs/Props.antt`, how one and a list are read. `specs/Lookup.antt` has the
+//! look-ups, and what goes on to subscribers, and `specs/Examples.antt` what computes. `specs/SpelledLaws.antt` and
+//! `FoundLaws.antt` have the laws for the layers above.
+#![tactic(auto)]
+
+mod laws;
+mod listing;
+mod lookup;
+mod named;
+mod prop;
+mod props;
+mod reading;
+mod refused;
+mod table;
+
+pub use laws::{none_begins_another, read_was_spelled, spelled_is_read};
+pub use prop::{Prop, write_prop};
+pub use props::{Props, read, read_bare, take_props, write, write_bare};
+pub use reading::read_prop;
+pub use refused::PropRefused;
+pub use table::{
+    ASSIGNED_CLIENT_IDENTIFIER, AUTHENTICATION_DATA, AUTHENTICATION_METHOD, CONTENT_TYPE,
+    CORRELATION_DATA, Holder, MAXIMUM_PACKET_SIZE, MAXIMUM_QOS, MESSAGE_EXPIRY_INTERVAL,
+    PAYLOAD_FORMAT_INDICATOR, REASON_STRING, RECEIVE_MAXIMUM, REQUEST_PROBLEM_INFORMATION,
+    REQUEST_RESPONSE_INFORMATION, RESPONSE_INFORMATION, RESPONSE_TOPIC, RETAIN_AVAILABLE,
+    SERVER_KEEP_ALIVE, SERVER_REFERENCE, SESSION_EXPIRY_INTERVAL, SHARED_SUBSCRIPTION_AVAILABLE,
+    SUBSCRIPTION_IDENTIFIER, SUBSCRIPTION_IDENTIFIER_AVAILABLE, TOPIC_ALIAS, TOPIC_ALIAS_MAXIMUM,
+    USER_PROPERTY, ValueType, WILDCARD_SUBSCRIPTION_AVAILABLE, WILL_DELAY_INTERVAL, may_repeat,
+    stands_in, value_type,
+};
