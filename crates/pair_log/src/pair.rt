@@ -332,6 +332,7 @@ impl<D: Disk> PairLog<D> {
             (D.state self.new.active.disk) }
         ensures any_moment { EachMoment D.state self.old self.new
             (IsEither self.old.active.payloads (after_doubt self.old)) }
+        ensures images { HasEither D.state self.new }
         ensures run { Runs 1 1 (D.state self.old.active.disk)
             (D.state self.new.active.disk) result }
         ensures never_full { IsErrOf result Full → ⊥ }
@@ -356,6 +357,7 @@ impl<D: Disk> PairLog<D> {
             (D.state self.new.active.disk) }
         ensures any_moment { EachMoment D.state self.old self.new
             (IsEither self.old.active.payloads (after_doubt self.old)) }
+        ensures images { HasEither D.state self.new }
         ensures run { Runs 1 1 (D.state self.old.active.disk)
             (D.state self.new.active.disk) result }
         ensures never_full { IsErrOf result Full → ⊥ }
@@ -438,7 +440,7 @@ impl<D: Disk> PairLog<D> {
         ensures side { self.new.side ≡ self.old.side }
         ensures any_moment { EachMoment D.state self.old self.new
             (IsEither self.old.active.payloads (after_doubt self.old)) }
-        ensures images { OnOk result (HasEither D.state self.new) }
+        ensures images { HasEither D.state self.new }
         ensures run { Runs 2 2 (D.state self.old.active.disk)
             (D.state self.new.active.disk) result }
         ensures cause { IsBlamed (D.state self.old.active.disk).faults
@@ -467,7 +469,7 @@ impl<D: Disk> PairLog<D> {
             ≡ self.old.active.disk }
         ensures any_moment { EachMoment D.state self.old self.new
             (IsEither self.old.active.payloads (after_doubt self.old)) }
-        ensures images { OnOk result (HasEither D.state self.new) }
+        ensures images { HasEither D.state self.new }
         ensures run { Runs 2 2 (D.state self.old.standby.disk)
             (D.state (second_of self.old.side (first_disk self.new) (second_disk self.new)))
             result }
@@ -510,7 +512,7 @@ impl<D: Disk> PairLog<D> {
             (D.state (second_disk self.new)) }
         ensures any_moment { EachMoment D.state self.old self.new
             (IsEither self.old.active.payloads (after_doubt self.old)) }
-        ensures images { OnOk result (HasEither D.state self.new) }
+        ensures images { HasEither D.state self.new }
         ensures run { (self.old.doubt ≡ Restart → ⊥)
             → Runs 2 2 (D.state (disk_on (doubted_side self.old) self.old))
             (D.state (disk_on (doubted_side self.old) self.new)) result }

@@ -1,7 +1,7 @@
-use Rattle.std.proofs.Common.{[], ◌++◌, ap, ◌∙◌}
+use Rattle.std.proofs.Common.{rules, [], ◌++◌, ap, ◌∙◌}
 use Rattle.outside.specs.Results.{on_ok_then}
 use Rattle.pair_log.specs.PlainPair.{IsEither, PlainPair, after_doubt}
-use Rattle.pair_log.proofs.PairLemmas.{one_step, snapshot_is}
+use Rattle.pair_log.proofs.PairLemmas.{one_step, pair_has, snapshot_is}
 use Rattle.pair_log.proofs.SettleLemmas.{active_moment}
 use Rattle.pair_log.proofs.pair.PairLog.snapshot.Goals as goal
 
@@ -15,3 +15,9 @@ returns-clause-any_moment g c =
     one_step g.D.Disk.state (IsEither pair.active.payloads (after_doubt pair)) _ _ _ _ c.recorded-self-inside.ensures
     (active_moment g.D.Disk.state pair c.part.new.self.disk c.self.invariant told
     (c.part.ensures.any_moment told.0).each (λ b left. g.met.D.Disk.only_now c.self.inside.standby.disk b left)))
+
+pub invariant_of-self : goal.invariant_of-self
+invariant_of-self g c = search rules
+
+pub returns-clause-images : goal.returns-clause-images
+returns-clause-images g c = λ told. pair_has g.D.Disk.state _ (invariant_of-self g c) told
