@@ -53,6 +53,25 @@ identifiers = map (λ (r : Row). r.identifier) rows
 unfoldable pub in_writing_order : List Prop → List Prop
 in_writing_order ps = gathered identifiers ps
 
+-- a list that has the properties of another one, which stand as they may anywhere, in writing order
+pub record IsArranged (holder : Holder) (qs ps : List Prop) : Type 0 where
+  pub fits : All (IsPropIn holder) qs
+  pub ordered : in_writing_order qs ≡ ps
+
+-- the properties that fill the bytes, in writing order, whether or not one is repeated or has a bad value
+abbrev pub bare_list : Holder → List ℕ → Result (List Prop) PropRefused
+bare_list holder bytes = then_read (each_at holder bytes) (λ ps. Ok (in_writing_order ps))
+
+-- the same of a list whose length stands in front, and the bytes behind it
+abbrev pub sized_list : Holder → ℕ × List ℕ → Result (List Prop × List ℕ) PropRefused
+sized_list holder size =
+    if nat_le size.0 (length size.1)
+    then then_read (bare_list holder (take size.0 size.1)) (λ ps. Ok (ps, drop size.0 size.1))
+    else Err Spelling
+
+abbrev pub list_at : Holder → List ℕ → Result (List Prop × List ℕ) PropRefused
+list_at holder bytes = then_read (or_spelling (var_at bytes)) (sized_list holder)
+
 -- what is made of a list in writing order whose properties are spelled well and may stand there
 abbrev pub checked : Holder → List Prop → Result (List Prop) PropRefused
 checked holder ps =
