@@ -7,7 +7,7 @@ use Rattle.std.proofs.lemmas.List.Elements.{All-cons}
 use Rattle.wire_fields.specs.declared.cut.Cut.{Cut}
 use Rattle.wire_fields.specs.Spelled.{spelled_var, spelled_text}
 use Rattle.wire_fields.specs.Reading.{◌>>=◌, AreBytes, u8_at, u16_at, u32_at, var_at, bin_at, text_at}
-use Rattle.wire_fields.specs.Places.{Took, bind_ok, are_bytes_take}
+use Rattle.wire_fields.specs.Places.{Took, bind_ok, are_bytes_take, are_bytes_drop}
 use Rattle.wire_fields.specs.NumberLaws.{u8_takes, u16_takes, u32_takes}
 use Rattle.wire_fields.specs.VarLaws.{var_takes}
 use Rattle.wire_fields.specs.TextLaws.{is_text_means}
@@ -22,9 +22,10 @@ use Rattle.mqtt_props.specs.declared.prop.Prop.TheVariants.{Byte, Two, Four, Var
 use Rattle.mqtt_props.specs.Table.{value_type, stands_in}
 use Rattle.mqtt_props.specs.Prop.{id_of, IsProp, IsPropIn, IsShortText, spelled_value, spelled_prop}
 use Rattle.mqtt_props.specs.Reading.{then_read, or_spelling, made, texts_at, value_at, if_it_stands, type_in, named_at, prop_at}
-use Rattle.mqtt_props.specs.Props.{in_front, each_within, arranged, bare_props, sized_props, props_at, SpellsBare, SpellsSized}
+use Rattle.mqtt_props.specs.Props.{in_front, each_within, in_writing_order, bare_list, sized_list, list_at, checked, arranged, bare_props, props_at, spelled_bare, IsArranged, SpellsBare, SpellsSized, TookList}
 use Rattle.mqtt_props.specs.TypeLaws.{variable_is, texts_are}
 use Rattle.mqtt_props.specs.SpelledLaws.{prop_some}
+use Rattle.mqtt_props.specs.ListLaws.{props_are_checked}
 
 -- ---- what a step gave
 
@@ -153,20 +154,52 @@ bare_takes holder bytes ps fits e =
     let found = each_takes (length bytes) holder bytes head.0 fits (omega arith) head.1 in
     (head.0, (found.0, found.1, head.2))
 
-pub props_take : (holder : Holder) (bytes : List ℕ) (x : List Prop × List ℕ) → AreBytes bytes → props_at holder bytes ≡ Ok x → SpellsSized holder bytes x.0 x.1
-props_take holder bytes x fits e =
-    let head = then_ok (or_spelling (var_at bytes)) (sized_props holder) x e in
+-- a list is read, whether or not a property is repeated or has a bad value
+listed : (holder : Holder) (bytes : List ℕ) (ps : List Prop) → AreBytes bytes → bare_list holder bytes ≡ Ok ps → (qs : List Prop) × (IsArranged holder qs ps × (bytes ≡ spelled_bare qs))
+listed holder bytes ps fits e =
+    let head = then_ok (each_within (length bytes) holder bytes) (λ qs. Ok (in_writing_order qs)) ps e in
+    let found = each_takes (length bytes) holder bytes head.0 fits (omega arith) head.1 in
+    let is : in_writing_order head.0 ≡ ps = let same = head.2 in cc in
+    (head.0, (record { fits = found.0; ordered = is }, found.1))
+
+sized_parts : (bytes rest bare : List ℕ) (n : ℕ) → bytes ≡ spelled_var n ++ rest → length bare ≡ n → take n rest ≡ bare → bytes ≡ (spelled_var (length bare) ++ bare) ++ drop n rest
+sized_parts bytes rest bare n e size is =
+    e
+    ∙ (λ i. spelled_var (sym size i) ++ sym (take-append-drop n rest) i)
+    ∙ ap (λ (l : List ℕ). spelled_var (length bare) ++ (l ++ drop n rest)) is
+    ∙ sym (append_assoc (spelled_var (length bare)) bare (drop n rest))
+
+pub list_takes : (holder : Holder) (bytes : List ℕ) (x : List Prop × List ℕ) → AreBytes bytes → list_at holder bytes ≡ Ok x → (qs : List Prop) × TookList holder bytes qs x.0 x.1
+list_takes holder bytes x fits e =
+    let head = then_ok (or_spelling (var_at bytes)) (sized_list holder) x e in
     let n = head.0.0 in
     let rest = head.0.1 in
     let t = var_takes bytes head.0 fits (or_ok (var_at bytes) head.0 head.1) in
-    let test = by_test (leb n (length rest)) Spelling (then_read (bare_props holder (take n rest)) (λ ps. Ok (ps, drop n rest))) x head.2 in
-    let list = then_ok (bare_props holder (take n rest)) (λ ps. Ok (ps, drop n rest)) x test.1 in
-    let size : length (take n rest) ≡ n = omega (arith, length-take n rest, leb-true n (length rest) test.0) in
-    let is : (list.0, drop n rest) ≡ x = let found = list.2 in cc in
+    let test = by_test (leb n (length rest)) Spelling (then_read (bare_list holder (take n rest)) (λ ps. Ok (ps, drop n rest))) x head.2 in
+    let list = then_ok (bare_list holder (take n rest)) (λ ps. Ok (ps, drop n rest)) x test.1 in
+    let found = listed holder (take n rest) list.0 (are_bytes_take n rest t.behind) list.1 in
+    let qs : List Prop = found.0 in
+    let bare : take n rest ≡ spelled_bare qs = found.1.1 in
+    let size : length (spelled_bare qs) ≡ n = sym (ap length bare) ∙ omega (arith, length-take n rest, leb-true n (length rest) test.0) in
+    let is : (list.0, drop n rest) ≡ x = let same = list.2 in cc in
+    subst (λ (y : List Prop × List ℕ). (zs : List Prop) × TookList holder bytes zs y.0 y.1) is (
+      qs,
+      record {
+        parts = sized_parts bytes rest (spelled_bare qs) n t.parts size bare;
+        list = found.1.0;
+        few = omega (arith, size, t.in_range);
+        behind = are_bytes_drop n rest t.behind;
+      },
+    )
+
+pub props_take : (holder : Holder) (bytes : List ℕ) (x : List Prop × List ℕ) → AreBytes bytes → props_at holder bytes ≡ Ok x → SpellsSized holder bytes x.0 x.1
+props_take holder bytes x fits e =
+    let read = then_ok (list_at holder bytes) (λ y. then_read (checked holder y.0) (λ ps. Ok (ps, y.1))) x (sym (props_are_checked holder bytes) ∙ e) in
+    let found = list_takes holder bytes read.0 fits read.1 in
+    let passed = then_ok (checked holder read.0.0) (λ ps. Ok (ps, read.0.1)) x read.2 in
+    let is : (passed.0, read.0.1) ≡ x = let same = passed.2 in cc in
+    let qs : List Prop = found.0 in
     subst (λ (y : List Prop × List ℕ). SpellsSized holder bytes y.0 y.1) is (
-      take n rest,
-      (
-        t.parts ∙ (λ i. spelled_var (sym size i) ++ sym (take-append-drop n rest) i) ∙ sym (append_assoc (spelled_var (length (take n rest))) (take n rest) (drop n rest)),
-        bare_takes holder (take n rest) list.0 (are_bytes_take n rest t.behind) list.1,
-      ),
+      spelled_bare qs,
+      (found.1.parts, (qs, (found.1.list.fits, refl, ap (checked holder) found.1.list.ordered ∙ passed.1))),
     )

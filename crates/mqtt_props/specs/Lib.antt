@@ -8,5 +8,9 @@ pub mod TypeLaws
 pub mod OrderLaws
 pub mod EachLaws
 pub mod KeptLaws
+pub mod ListLaws
+pub mod ArrangedLaws
 pub mod SpelledLaws
 pub mod FoundLaws
+pub mod Sizes
+pub mod SizeLaws

@@ -57,7 +57,7 @@ known (Pair name value) h = refl
 
 -- ---- sorted lists, by cases
 
-abbrev AllAmong : List ℕ → List Prop → Type 0
+abbrev pub AllAmong : List ℕ → List Prop → Type 0
 AllAmong ids [] = Unit {0}
 AllAmong ids (p ∷ ps) = (among (id_of p) ids ≡ true) × AllAmong ids ps
 
@@ -69,13 +69,13 @@ abbrev Rises : List Prop → Type 0
 Rises [] = Unit {0}
 Rises (p ∷ ps) = AtLeast (id_of p) ps × Rises ps
 
-abbrev ascends : List ℕ → Bool
+abbrev pub ascends : List ℕ → Bool
 ascends [] = true
 ascends (k ∷ ks) = list_all (λ (j : ℕ). nat_lt k j) ks && ascends ks
 
-all_known : (ps : List Prop) → ((k : ℕ) (d : Prop) → k < length ps → IsProp (get_or ps k d)) → AllAmong identifiers ps
-all_known [] h = tt
-all_known (p ∷ ps) h = (known p (h 0 p (omega arith)), all_known ps (λ k d lt. h (suc k) d (omega (arith, lt))))
+pub all_in_table : (ps : List Prop) → ((k : ℕ) (d : Prop) → k < length ps → IsProp (get_or ps k d)) → AllAmong identifiers ps
+all_in_table [] h = tt
+all_in_table (p ∷ ps) h = (known p (h 0 p (omega arith)), all_in_table ps (λ k d lt. h (suc k) d (omega (arith, lt))))
 
 at_least : (n : ℕ) (ps : List Prop) → ((j : ℕ) (d : Prop) → j < length ps → n ≤ id_of (get_or ps j d)) → AtLeast n ps
 at_least n [] h = tt
@@ -157,7 +157,7 @@ as_it_is (k ∷ ks) asc ps up in_it =
 
 pub sorted_is_in_order : (ps : List Prop) → IsNonDecreasingBy id_of ps → ((k : ℕ) (d : Prop) → k < length ps → IsProp (get_or ps k d)) → in_writing_order ps ≡ ps
 unfolding in_writing_order
-sorted_is_in_order ps up fits = as_it_is identifiers refl ps (rises ps up) (all_known ps fits)
+sorted_is_in_order ps up fits = as_it_is identifiers refl ps (rises ps up) (all_in_table ps fits)
 
 lt_by : (l e : Bool) → is_lt (cond l Less (cond e Equal Greater)) ≡ l
 lt_by true e = refl

@@ -1,8 +1,8 @@
 -- Lists of properties: read in any order, kept and written by ascending identifier (MQTT 2.2.2).
-use Rattle.std.specs.Prelude.{ℕ, zero, suc, Bool, false, ◌&&◌, ◌||◌, not, ◌==◌, List, [], ◌∷◌, ◌++◌, length, take, drop, map, nat_le, All, Option, Some, None, Result, Ok, Err, if◌then◌else◌, ◌≡◌}
+use Rattle.std.specs.Prelude.{ℕ, zero, suc, Bool, false, ◌&&◌, ◌||◌, not, ◌==◌, List, [], ◌∷◌, ◌++◌, length, take, drop, map, ◌≤◌, nat_le, All, Option, Some, None, Result, Ok, Err, if◌then◌else◌, ◌≡◌}
 use Rattle.std.specs.List.{list_any, list_all, filter, flat_map}
 use Rattle.wire_fields.specs.Spelled.{spelled_var}
-use Rattle.wire_fields.specs.Reading.{var_at}
+use Rattle.wire_fields.specs.Reading.{var_at, AreBytes}
 use Rattle.mqtt_props.specs.declared.table.Holder.{Holder}
 use Rattle.mqtt_props.specs.declared.refused.PropRefused.{PropRefused}
 use Rattle.mqtt_props.specs.declared.refused.PropRefused.TheVariants.{Spelling, Repeated, BadValue}
@@ -141,3 +141,10 @@ SpellsBare holder bytes ps =
 abbrev pub SpellsSized : Holder → List ℕ → List Prop → List ℕ → Type 0
 SpellsSized holder bytes ps rest =
     (bare : List ℕ) × ((bytes ≡ (spelled_var (length bare) ++ bare) ++ rest) × SpellsBare holder bare ps)
+
+-- the bytes are such properties with their length in front, and a rest; in writing order they are the list
+pub record TookList (holder : Holder) (bytes : List ℕ) (qs ps : List Prop) (rest : List ℕ) : Type 0 where
+  pub parts : bytes ≡ spelled_props qs ++ rest
+  pub list : IsArranged holder qs ps
+  pub few : length (spelled_bare qs) ≤ 268435455
+  pub behind : AreBytes rest

@@ -21,9 +21,10 @@ use Rattle.mqtt_props.specs.declared.prop.Prop.TheVariants.{Byte, Two, Four, Var
 use Rattle.mqtt_props.specs.Table.{value_type, stands_in}
 use Rattle.mqtt_props.specs.Prop.{id_of, IsProp, IsPropIn, IsShortText, spelled_value, spelled_prop}
 use Rattle.mqtt_props.specs.Reading.{then_read, or_spelling, made, texts_at, value_at, if_it_stands, type_in, named_at, prop_at}
-use Rattle.mqtt_props.specs.Props.{in_front, each_within, identifiers, checked, arranged, bare_props, sized_props, props_at, spelled_bare, spelled_props, FitsIn}
+use Rattle.mqtt_props.specs.Props.{in_front, each_within, identifiers, in_writing_order, bare_list, sized_list, list_at, checked, arranged, bare_props, props_at, spelled_bare, spelled_props, FitsIn}
 use Rattle.mqtt_props.specs.EachLaws.{nothing_left, each_step}
 use Rattle.mqtt_props.specs.OrderLaws.{among, known}
+use Rattle.mqtt_props.specs.ListLaws.{then_checked, props_are_checked}
 
 -- ---- one property
 
@@ -118,23 +119,35 @@ each_again holder (p ∷ ps) (suc n) h le =
 pub bare_in_any_order : (holder : Holder) (ps : List Prop) → All (IsPropIn holder) ps → bare_props holder (spelled_bare ps) ≡ arranged holder ps
 bare_in_any_order holder ps h = ap (λ (r : Result (List Prop) PropRefused). then_read r (arranged holder)) (each_again holder ps (length (flat_map spelled_prop ps)) h (enough ps))
 
+-- a list is read as it is kept, whether or not a property is repeated or has a bad value
+list_by : (holder : Holder) (qs : List Prop) → All (IsPropIn holder) qs → bare_list holder (spelled_bare qs) ≡ Ok (in_writing_order qs)
+list_by holder qs h = ap (λ (r : Result (List Prop) PropRefused). then_read r (λ ps. Ok (in_writing_order ps))) (each_again holder qs (length (flat_map spelled_prop qs)) h (enough qs))
+
+pub list_again : (holder : Holder) (qs : List Prop) (rest : List ℕ) → All (IsPropIn holder) qs → length (spelled_bare qs) ≤ 268435455 → list_at holder (spelled_props qs ++ rest) ≡ Ok (in_writing_order qs, rest)
+list_again holder qs rest h few =
+    let bare : List ℕ = spelled_bare qs in
+    let n : ℕ = length bare in
+    let within : leb n (length (bare ++ rest)) ≡ true = le-leb _ _ (omega (arith, length-append bare rest)) in
+    let answer : Result (List Prop) PropRefused → List ℕ → Result (List Prop × List ℕ) PropRefused = λ r l. then_read r (λ ps. Ok (ps, l)) in
+    ap (λ (l : List ℕ). then_read (or_spelling (var_at l)) (sized_list holder)) (append_assoc (spelled_var n) bare rest)
+    ∙ ap (λ (r : Result (ℕ × List ℕ) Cut). then_read (or_spelling r) (sized_list holder)) (var_again n (bare ++ rest) few)
+    ∙ ap (λ (b : Bool). cond b (then_read (bare_list holder (take n (bare ++ rest))) (λ ps. Ok (ps, drop n (bare ++ rest)))) (Err Spelling)) within
+    ∙ (λ i. answer (bare_list holder (take_at bare rest n refl i)) (drop_at bare rest n refl i))
+    ∙ ap (λ (r : Result (List Prop) PropRefused). answer r rest) (list_by holder qs h)
+
+checks_pass : (holder : Holder) (ps : List Prop) → FitsIn holder ps → checked holder ps ≡ Ok ps
+checks_pass holder ps h = (λ i. cond {A = Result (List Prop) PropRefused} (h.single i) (Err Repeated) (cond (h.good i) (Err BadValue) (Ok ps)))
+
 pub bare_again : (holder : Holder) (ps : List Prop) → FitsIn holder ps → bare_props holder (spelled_bare ps) ≡ Ok ps
-bare_again holder ps h =
-    bare_in_any_order holder ps h.fits
-    ∙ ap (checked holder) h.ordered
-    ∙ (λ i. cond {A = Result (List Prop) PropRefused} (h.single i) (Err Repeated) (cond (h.good i) (Err BadValue) (Ok ps)))
+bare_again holder ps h = bare_in_any_order holder ps h.fits ∙ ap (checked holder) h.ordered ∙ checks_pass holder ps h
 
 pub props_again : (holder : Holder) (ps : List Prop) (rest : List ℕ) → FitsIn holder ps → length (spelled_bare ps) ≤ 268435455 → props_at holder (spelled_props ps ++ rest) ≡ Ok (ps, rest)
 props_again holder ps rest h few =
-    let bare : List ℕ = spelled_bare ps in
-    let n : ℕ = length bare in
-    let within : leb n (length (bare ++ rest)) ≡ true = le-leb _ _ (omega (arith, length-append bare rest)) in
-    let answer : Result (List Prop) PropRefused → List ℕ → Result (List Prop × List ℕ) PropRefused = λ r l. then_read r (λ qs. Ok (qs, l)) in
-    ap (λ (l : List ℕ). then_read (or_spelling (var_at l)) (sized_props holder)) (append_assoc (spelled_var n) bare rest)
-    ∙ ap (λ (r : Result (ℕ × List ℕ) Cut). then_read (or_spelling r) (sized_props holder)) (var_again n (bare ++ rest) few)
-    ∙ ap (λ (b : Bool). cond b (then_read (bare_props holder (take n (bare ++ rest))) (λ qs. Ok (qs, drop n (bare ++ rest)))) (Err Spelling)) within
-    ∙ (λ i. answer (bare_props holder (take_at bare rest n refl i)) (drop_at bare rest n refl i))
-    ∙ ap (λ (r : Result (List Prop) PropRefused). answer r rest) (bare_again holder ps h)
+    let answer : Result (List Prop) PropRefused → Result (List Prop × List ℕ) PropRefused = λ r. then_read r (λ qs. Ok (qs, rest)) in
+    props_are_checked holder (spelled_props ps ++ rest)
+    ∙ ap (then_checked holder) (list_again holder ps rest h.fits few)
+    ∙ ap (λ (qs : List Prop). answer (checked holder qs)) h.ordered
+    ∙ ap answer (checks_pass holder ps h)
 
 pub none_begins : (holder : Holder) (ps qs : List Prop) (x y : List ℕ) → FitsIn holder ps → FitsIn holder qs → length (spelled_bare ps) ≤ 268435455 → length (spelled_bare qs) ≤ 268435455
     → spelled_props ps ++ x ≡ spelled_props qs ++ y → (ps ≡ qs) × (x ≡ y)

@@ -1,10 +1,12 @@
-ghost use Rattle.std.specs.Prelude.{◌≡◌, ◌≤◌, ◌++◌, ℕ, List, length, All, Ok};
+ghost use Rattle.std.specs.Prelude.{◌≡◌, ◌≤◌, ◌++◌, ℕ, Bool, true, List, length, All, Ok};
+ghost use Rattle.std.specs.List.Sorted.{IsPermutation};
 ghost use Rattle.wire_fields.specs.Reading.{AreBytes};
 ghost use Rattle.mqtt_props.specs.declared.prop.Prop.{Prop};
 ghost use Rattle.mqtt_props.specs.declared.table.Holder.{Holder};
-ghost use Rattle.mqtt_props.specs.Prop.{IsPropIn, spelled_prop};
+ghost use Rattle.mqtt_props.specs.Prop.{IsProp, IsPropIn, spelled_prop};
 ghost use Rattle.mqtt_props.specs.Reading.{prop_at};
-ghost use Rattle.mqtt_props.specs.Props.{arranged, bare_props, props_at, spelled_bare, spelled_props, FitsIn, SpellsBare, SpellsSized};
+ghost use Rattle.mqtt_props.specs.Props.{arranged, bare_props, in_writing_order, list_at, props_at, spelled_bare, spelled_props, FitsIn, IsArranged, SpellsBare, SpellsSized, TookList};
+ghost use Rattle.mqtt_props.specs.Sizes.{bare_size, prop_size, props_size};
 
 use wire_fields::MOST_VAR;
 
@@ -20,6 +22,9 @@ pub fn spelled_is_read()
     ensures whole { (holder : Holder) (ps : List Prop) (rest : List ℕ) → FitsIn holder ps →
         length (spelled_bare ps) ≤ MOST_VAR →
         props_at holder (spelled_props ps ++ rest) ≡ Ok (ps, rest) }
+    ensures list { (holder : Holder) (qs : List Prop) (rest : List ℕ) →
+        All (IsPropIn holder) qs → length (spelled_bare qs) ≤ MOST_VAR →
+        list_at holder (spelled_props qs ++ rest) ≡ Ok (in_writing_order qs, rest) }
 {}
 
 /// A law: what is read was spelled so, in some order.
@@ -31,6 +36,9 @@ pub fn read_was_spelled()
         bare_props holder bytes ≡ Ok ps → SpellsBare holder bytes ps }
     ensures whole { (holder : Holder) (bytes rest : List ℕ) (ps : List Prop) → AreBytes bytes →
         props_at holder bytes ≡ Ok (ps, rest) → SpellsSized holder bytes ps rest }
+    ensures list { (holder : Holder) (bytes rest : List ℕ) (ps : List Prop) → AreBytes bytes →
+        list_at holder bytes ≡ Ok (ps, rest) →
+        (qs : List Prop) × TookList holder bytes qs ps rest }
 {}
 
 /// A law: no list with its length in front begins another of the same holder, and one spelling that is written is of
@@ -40,4 +48,36 @@ pub fn none_begins_another()
         FitsIn holder ps → FitsIn holder qs →
         length (spelled_bare ps) ≤ MOST_VAR → length (spelled_bare qs) ≤ MOST_VAR →
         spelled_props ps ++ x ≡ spelled_props qs ++ y → (ps ≡ qs) × (x ≡ y) }
+{}
+
+/// A law: writing order loses and adds nothing, so that the list takes as many bytes; each property may still stand
+/// there and still passes a test; and a second time it changes nothing.
+pub fn order_keeps_all()
+    ensures moves { (ps : List Prop) → All IsProp ps → IsPermutation ps (in_writing_order ps) }
+    ensures fits { (holder : Holder) (ps : List Prop) → All (IsPropIn holder) ps →
+        All (IsPropIn holder) (in_writing_order ps) }
+    ensures each { (test : Prop → Bool) (ps : List Prop) → All (λ p. test p ≡ true) ps →
+        All (λ p. test p ≡ true) (in_writing_order ps) }
+    ensures again { (ps : List Prop) →
+        in_writing_order (in_writing_order ps) ≡ in_writing_order ps }
+    ensures size { (ps : List Prop) → All IsProp ps →
+        length (spelled_bare (in_writing_order ps)) ≡ length (spelled_bare ps) }
+{}
+
+/// A law: a list in writing order is arranged as itself, and one that was arranged is in writing order and may stand
+/// there too.
+pub fn written_is_arranged()
+    ensures itself { (holder : Holder) (ps : List Prop) → All (IsPropIn holder) ps →
+        in_writing_order ps ≡ ps → IsArranged holder ps ps }
+    ensures fits { (holder : Holder) (qs ps : List Prop) → IsArranged holder qs ps →
+        All (IsPropIn holder) ps }
+    ensures ordered { (holder : Holder) (qs ps : List Prop) → IsArranged holder qs ps →
+        in_writing_order ps ≡ ps }
+{}
+
+/// A law: how many bytes a property, a list, and a list with its length in front take (MQTT 2.2.2).
+pub fn sizes_are_numbers()
+    ensures prop { (p : Prop) → IsProp p → length (spelled_prop p) ≡ prop_size p }
+    ensures bare { (ps : List Prop) → All IsProp ps → length (spelled_bare ps) ≡ bare_size ps }
+    ensures whole { (ps : List Prop) → All IsProp ps → length (spelled_props ps) ≡ props_size ps }
 {}

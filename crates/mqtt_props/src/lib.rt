@@ -25,9 +25,12 @@ mod reading;
 mod refused;
 mod table;
 
-pub use laws::{none_begins_another, read_was_spelled, spelled_is_read};
+pub use laws::{
+    none_begins_another, order_keeps_all, read_was_spelled, sizes_are_numbers, spelled_is_read,
+    written_is_arranged,
+};
 pub use prop::{Prop, write_prop};
-pub use props::{Props, read, read_bare, take_props, write, write_bare};
+pub use props::{Props, read, read_bare, take_list, take_props, write, write_bare};
 pub use reading::read_prop;
 pub use refused::PropRefused;
 pub use table::{

@@ -1,8 +1,9 @@
-ghost use Rattle.std.specs.Prelude.{◌≡◌, ◌≤◌, ◌++◌, [], ◌∷◌, length, drop, IfOk, OnOk, OnErr};
-ghost use Rattle.mqtt_props.specs.Prop.{IsProp};
+ghost use Rattle.std.specs.Prelude.{◌≡◌, ◌≤◌, ◌++◌, [], ◌∷◌, length, drop, All, IfOk, OnOk, OnErr};
+ghost use Rattle.std.specs.List.{list_any};
+ghost use Rattle.mqtt_props.specs.Prop.{is_bad, IsProp, IsPropIn};
 ghost use Rattle.mqtt_props.specs.Reading.{TakesOne};
 ghost use Rattle.mqtt_props.specs.Lookup.{forwarded};
-ghost use Rattle.mqtt_props.specs.Props.{all_stand_in, in_writing_order, bare_props, whole_props, props_at, spelled_bare, spelled_props, if_var, AreProps, FitsIn, GivesAs};
+ghost use Rattle.mqtt_props.specs.Props.{all_stand_in, has_repeated, in_writing_order, bare_list, list_at, checked, bare_props, whole_props, props_at, spelled_bare, spelled_props, if_var, AreProps, FitsIn, GivesAs};
 
 use crate::listing::{
     all_stand_in, bare_length, has_bad, has_repeated, put_each, read_each, sort_props,
@@ -60,6 +61,22 @@ impl Props {
         all_stand_in(holder, &self.list)
     }
 
+    /// Whether a second property stands where this holder has only one (MQTT 2.2.2.2).
+    pub fn has_repeated(&self, holder: Holder) -> bool
+        ensures { result ≡ has_repeated holder self.now }
+    {
+        has_repeated(holder, &self.list)
+    }
+
+    /// Whether one has a value that the standard does not allow: a byte that may be 0 or 1 alone (MQTT 3.1.2.11.6,
+    /// 3.1.2.11.7, 3.2.2.3.4, 3.2.2.3.5, 3.2.2.3.11 to 3.2.2.3.13, 3.3.2.3.2), and a Receive Maximum, a Maximum Packet
+    /// Size or a Subscription Identifier of 0 (MQTT 3.1.2.11.3, 3.1.2.11.4, 3.8.2.1.2).
+    pub fn has_bad(&self) -> bool
+        ensures { result ≡ list_any is_bad self.now }
+    {
+        has_bad(&self.list)
+    }
+
     /// Puts one behind those whose identifier is not greater.
     pub fn add(&mut self, prop: Prop) -> Result<(), AllocError>
         requires { IsProp prop }
@@ -103,23 +120,43 @@ fn add_sorted(list: &mut Vec<Prop>, prop: Prop) -> Result<(), AllocError>
     Ok(())
 }
 
+// The properties that fill the bytes, in writing order. One that is repeated or has a bad value is no refusal.
+fn bare_list(alloc: Global, holder: Holder, bytes: &[u8]) -> Result<Props, PropRefused>
+    ensures exact { GivesAs (λ p. p) result (bare_list holder bytes.now) }
+    ensures fits { IfOk result (λ ps. All (IsPropIn holder) ps) }
+{
+    let mut list = read_each(alloc, holder, bytes)?;
+    sort_props(&mut list)?;
+    Ok(Props { list })
+}
+
+// The same list, where none is repeated that may not be and none has a bad value.
+fn checked(holder: Holder, props: Props) -> Result<Props, PropRefused>
+    requires { All (IsPropIn holder) props }
+    ensures exact { GivesAs (λ p. p) result (checked holder props) }
+    ensures fits { IfOk result (λ ps. FitsIn holder ps) }
+{
+    if has_repeated(holder, &props.list) {
+        return Err(PropRefused::Repeated);
+    }
+    if has_bad(&props.list) {
+        return Err(PropRefused::BadValue);
+    }
+    Ok(props)
+}
+
 /// Reads a list of properties without its length in front, which fills the bytes, in any order. `Unknown`, `Misplaced`
 /// and `Spelling` come by place in the bytes; else `Repeated`, and else `BadValue` (MQTT 2.2.2.2).
+#[tactic(auto, using(crate::specs::ListLaws::bare_is_checked))]
 pub fn read_bare(alloc: Global, holder: Holder, bytes: &[u8]) -> Result<Props, PropRefused>
     // What it gives, computed.
     ensures exact { GivesAs (λ p. p) result (bare_props holder bytes.now) }
     // What is read may stand there.
     ensures fits { IfOk result (λ ps. FitsIn holder ps) }
 {
-    let mut list = read_each(alloc, holder, bytes)?;
-    sort_props(&mut list)?;
-    if has_repeated(holder, &list) {
-        return Err(PropRefused::Repeated);
-    }
-    if has_bad(&list) {
-        return Err(PropRefused::BadValue);
-    }
-    Ok(Props { list })
+    let props = bare_list(alloc, holder, bytes)?;
+    let props = checked(holder, props)?;
+    Ok(props)
 }
 
 /// Reads a list of properties with its length in front, which fills the bytes, in any order. A length that is not that
@@ -139,8 +176,37 @@ pub fn read(alloc: Global, holder: Holder, bytes: &[u8]) -> Result<Props, PropRe
     read_bare(alloc, holder, list)
 }
 
+/// Reads a list of properties with its length in front from the place `at` of a packet, in any order, and moves `at`
+/// behind it. A property that is repeated or has a bad value is no refusal: `Props::has_repeated` and `Props::has_bad`
+/// tell. A length that passes the end is `Spelling`, before all else; then `Unknown`, `Misplaced` and `Spelling` come by
+/// place in the bytes. A refusal leaves `at` (MQTT 2.2.2).
+pub fn take_list(
+    alloc: Global,
+    holder: Holder,
+    bytes: &[u8],
+    at: &mut usize,
+) -> Result<Props, PropRefused>
+    // What it gives, computed.
+    ensures exact { TakesOne result
+        (list_at holder (drop at.old bytes.now)) bytes.now at.old at.new }
+    // What is read may stand there.
+    ensures fits { IfOk result (λ ps. All (IsPropIn holder) ps) }
+    ensures stays { OnErr result (at.new ≡ at.old) }
+{
+    let mut behind = *at;
+    let size = take_var(bytes, &mut behind)? as usize;
+    let rest = &bytes[behind..];
+    if rest.len() < size {
+        return Err(PropRefused::Spelling);
+    }
+    let props = bare_list(alloc, holder, &rest[..size])?;
+    *at = behind + size;
+    Ok(props)
+}
+
 /// Reads a list of properties with its length in front from the place `at` of a packet, and moves `at` behind it. A
 /// length that passes the end is `Spelling`, before all else; then as `read_bare`. A refusal leaves `at` (MQTT 2.2.2).
+#[tactic(auto, using(crate::specs::ListLaws::props_are_checked))]
 pub fn take_props(
     alloc: Global,
     holder: Holder,
@@ -155,13 +221,9 @@ pub fn take_props(
     ensures stays { OnErr result (at.new ≡ at.old) }
 {
     let mut behind = *at;
-    let size = take_var(bytes, &mut behind)? as usize;
-    let rest = &bytes[behind..];
-    if rest.len() < size {
-        return Err(PropRefused::Spelling);
-    }
-    let props = read_bare(alloc, holder, &rest[..size])?;
-    *at = behind + size;
+    let props = take_list(alloc, holder, bytes, &mut behind)?;
+    let props = checked(holder, props)?;
+    *at = behind;
     Ok(props)
 }
 

@@ -1,4 +1,4 @@
-use Rattle.mqtt_props.specs.FoundLaws.{prop_takes, bare_takes, props_take}
+use Rattle.mqtt_props.specs.FoundLaws.{prop_takes, bare_takes, props_take, list_takes}
 use Rattle.mqtt_props.proofs.laws.read_was_spelled.Goals as goal
 
 pub returns-clause-prop : goal.returns-clause-prop
@@ -9,3 +9,6 @@ returns-clause-bare c = bare_takes
 
 pub returns-clause-whole : goal.returns-clause-whole
 returns-clause-whole c = λ holder bytes rest ps fits e. props_take holder bytes (ps, rest) fits e
+
+pub returns-clause-list : goal.returns-clause-list
+returns-clause-list c = λ holder bytes rest ps fits e. list_takes holder bytes (ps, rest) fits e

@@ -1,4 +1,4 @@
-use Rattle.mqtt_props.specs.SpelledLaws.{prop_again, bare_in_any_order, bare_again, props_again}
+use Rattle.mqtt_props.specs.SpelledLaws.{prop_again, bare_in_any_order, bare_again, props_again, list_again}
 use Rattle.mqtt_props.proofs.laws.spelled_is_read.Goals as goal
 
 pub returns-clause-prop : goal.returns-clause-prop
@@ -12,3 +12,6 @@ returns-clause-bare c = bare_again
 
 pub returns-clause-whole : goal.returns-clause-whole
 returns-clause-whole c = props_again
+
+pub returns-clause-list : goal.returns-clause-list
+returns-clause-list c = list_again

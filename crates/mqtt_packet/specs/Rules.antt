@@ -1,0 +1,93 @@
+-- The rules of the protocol that a packet's bytes alone may break (MQTT 4.13.1, Protocol Error), by number.
+use Rattle.std.specs.Prelude.{ℕ, Bool, true, false, ◌&&◌, ◌||◌, not, ◌==◌, ◌/◌, ◌%◌, if◌then◌else◌, List, [], ◌∷◌, Option, Some, None, is_some, is_none}
+use Rattle.std.specs.List.{list_any}
+use Rattle.mqtt_props.specs.declared.prop.Prop.{Prop}
+use Rattle.mqtt_props.specs.declared.table.Holder.{Holder}
+use Rattle.mqtt_props.specs.declared.table.Holder.TheVariants as In
+use Rattle.mqtt_props.specs.Prop.{is_bad}
+use Rattle.mqtt_props.specs.Props.{has_repeated}
+use Rattle.mqtt_props.specs.Lookup.{first_of, text_in, bin_in}
+use Rattle.mqtt_packet.specs.declared.packet.Will.{Will}
+use Rattle.mqtt_packet.specs.declared.packet.Wish.{Wish}
+use Rattle.mqtt_packet.specs.Packet.{PlainPacket, Connect, Connack, Publish, Ack, Subscribe, Suback, Unsubscribe, Unsuback, Pingreq, Pingresp, Disconnect, Auth}
+use Rattle.mqtt_packet.specs.Fits.{has_wildcard, ack_holder}
+
+-- a list of properties with what it stands in
+pub record Held : Type 0 where
+  pub holder : Holder
+  pub list : List Prop
+
+abbrev pub held : Holder → List Prop → Held
+held holder list = record { holder = holder; list = list }
+
+abbrev pub held_by_will : Option Will → List Held
+held_by_will None = []
+held_by_will (Some will) = held In.Will will.props ∷ []
+
+-- the lists of properties that a packet has
+abbrev pub lists_of : PlainPacket → List Held
+lists_of (Connect c) = held In.Connect c.props ∷ held_by_will c.will
+lists_of (Connack c) = held In.Connack c.props ∷ []
+lists_of (Publish p) = held In.Publish p.props ∷ []
+lists_of (Ack kind a) = held (ack_holder kind) a.props ∷ []
+lists_of (Subscribe s) = held In.Subscribe s.props ∷ []
+lists_of (Suback s) = held In.Suback s.props ∷ []
+lists_of (Unsubscribe u) = held In.Unsubscribe u.props ∷ []
+lists_of (Unsuback u) = held In.Unsuback u.props ∷ []
+lists_of Pingreq = []
+lists_of Pingresp = []
+lists_of (Disconnect d) = held In.Disconnect d.props ∷ []
+lists_of (Auth a) = held In.Auth a.props ∷ []
+
+-- a property stands twice where it may not (MQTT 2.2.2.2 and with each property)
+abbrev pub repeats : PlainPacket → Bool
+repeats packet = list_any (λ (h : Held). has_repeated h.holder h.list) (lists_of packet)
+
+-- a property has a value that isn't allowed
+abbrev pub has_bad_value : PlainPacket → Bool
+has_bad_value packet = list_any (λ (h : Held). list_any is_bad h.list) (lists_of packet)
+
+-- Authentication Data without Authentication Method (MQTT 3.1.2.11.10)
+abbrev pub is_data_alone : List Prop → Bool
+is_data_alone props = is_some (first_of (bin_in 0x16) props) && is_none (first_of (text_in 0x15) props)
+
+abbrev pub lacks_method : PlainPacket → Bool
+lacks_method (Connect c) = is_data_alone c.props
+lacks_method other = false
+
+-- a Response Topic with a wildcard (MQTT 3.3.2.3.5, 3.1.3.2.6)
+abbrev pub is_wild : Option (List ℕ) → Bool
+is_wild None = false
+is_wild (Some topic) = has_wildcard topic
+
+abbrev pub has_wild_response : PlainPacket → Bool
+has_wild_response packet = list_any (λ (h : Held). is_wild (first_of (text_in 0x08) h.list)) (lists_of packet)
+
+abbrev pub is_nothing : {A : Type 0} → List A → Bool
+is_nothing [] = true
+is_nothing (x ∷ xs) = false
+
+-- no filter (MQTT 3.8.3, 3.10.3)
+abbrev pub lacks_filter : PlainPacket → Bool
+lacks_filter (Subscribe s) = is_nothing s.filters
+lacks_filter (Unsubscribe u) = is_nothing u.filters
+lacks_filter other = false
+
+-- QoS 3 or Retain Handling 3 (MQTT 3.8.3.1)
+abbrev pub is_bad_wish : Wish → Bool
+is_bad_wish wish = (wish.options % 4 == 3) || (wish.options / 16 % 4 == 3)
+
+abbrev pub has_bad_options : PlainPacket → Bool
+has_bad_options (Subscribe s) = list_any is_bad_wish s.filters
+has_bad_options other = false
+
+-- the least that is broken
+abbrev pub broken_rule : PlainPacket → Option ℕ
+broken_rule packet =
+    if repeats packet then Some 4
+    else if has_bad_value packet then Some 5
+    else if lacks_method packet then Some 6
+    else if has_wild_response packet then Some 7
+    else if lacks_filter packet then Some 10
+    else if has_bad_options packet then Some 11
+    else None
