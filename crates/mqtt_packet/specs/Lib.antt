@@ -5,4 +5,7 @@ pub mod Spells
 pub mod Reading
 pub mod Rules
 pub mod Answer
+pub mod Taking
+pub mod PartLaws
+pub mod EachLaws
 pub mod Examples

@@ -212,6 +212,12 @@ abbrev pub answer_in : Holder → List ℕ → Option AnswerFields
 answer_in holder body =
     id_at body >>= λ id. props_at holder id.1 >>= λ props. Some (record { id = id.0; props = props.0; reasons = props.1 })
 
+abbrev pub suback_in : List ℕ → Option PlainPacket
+suback_in body = answer_in In.Suback body >>= λ s. Some (Suback s)
+
+abbrev pub unsuback_in : List ℕ → Option PlainPacket
+unsuback_in body = answer_in In.Unsuback body >>= λ u. Some (Unsuback u)
+
 -- ---- PINGREQ and PINGRESP (MQTT 3.12, 3.13)
 
 abbrev pub nothing_in : PlainPacket → List ℕ → Option PlainPacket
@@ -244,9 +250,9 @@ body_in kind body =
     else if kind == 6 then ack_in Pubrel body
     else if kind == 7 then ack_in Pubcomp body
     else if kind == 8 then subscribe_in body
-    else if kind == 9 then (answer_in In.Suback body >>= λ s. Some (Suback s))
+    else if kind == 9 then suback_in body
     else if kind == 10 then unsubscribe_in body
-    else if kind == 11 then (answer_in In.Unsuback body >>= λ u. Some (Unsuback u))
+    else if kind == 11 then unsuback_in body
     else if kind == 12 then nothing_in Pingreq body
     else if kind == 13 then nothing_in Pingresp body
     else if kind == 14 then disconnect_in body

@@ -1,4 +1,5 @@
 ghost use Rattle.std.specs.Prelude.{◌≡◌};
+ghost use Rattle.mqtt_packet.specs.Taking.{refusal_of};
 ghost use Rattle.mqtt_packet.specs.declared.refused.ReadRefused.TheVariants.{Malformed, Memory};
 
 use mqtt_props::PropRefused;
@@ -46,5 +47,20 @@ impl<T: Drop> From<AllocFailed<T>> for ReadRefused {
 
     fn from(_: AllocFailed<T>) -> ReadRefused {
         ReadRefused::Memory
+    }
+}
+
+impl From<PropRefused> for ReadRefused {
+    ghost from_gives = { λ p e. e ≡ refusal_of p };
+
+    fn from(refused: PropRefused) -> ReadRefused {
+        match refused {
+            PropRefused::Memory => ReadRefused::Memory,
+            PropRefused::Unknown
+            | PropRefused::Misplaced
+            | PropRefused::Spelling
+            | PropRefused::Repeated
+            | PropRefused::BadValue => ReadRefused::Malformed,
+        }
     }
 }

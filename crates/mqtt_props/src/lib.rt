@@ -31,7 +31,7 @@ pub use laws::{
 };
 pub use prop::{Prop, write_prop};
 pub use props::{Props, read, read_bare, take_list, take_props, write, write_bare};
-pub use reading::read_prop;
+pub use reading::{read_prop, take_blob, take_name};
 pub use refused::PropRefused;
 pub use table::{
     ASSIGNED_CLIENT_IDENTIFIER, AUTHENTICATION_DATA, AUTHENTICATION_METHOD, CONTENT_TYPE,

@@ -75,8 +75,8 @@ fn value_in(
         ValueType::TwoBytes => Ok(Prop::Two(identifier, take_u16(bytes, at)?)),
         ValueType::FourBytes => Ok(Prop::Four(identifier, take_u32(bytes, at)?)),
         ValueType::Variable => Ok(Prop::Var(take_var(bytes, at)?)),
-        ValueType::OneText => Ok(Prop::Text(identifier, name_in(alloc, bytes, at)?)),
-        ValueType::Binary => Ok(Prop::Bin(identifier, blob_in(alloc, bytes, at)?)),
+        ValueType::OneText => Ok(Prop::Text(identifier, take_name(alloc, bytes, at)?)),
+        ValueType::Binary => Ok(Prop::Bin(identifier, take_blob(alloc, bytes, at)?)),
         ValueType::TwoTexts => {
             let (name, value) = names_in(alloc, bytes, at)?;
             Ok(Prop::Pair(name, value))
@@ -94,9 +94,12 @@ fn name_of(alloc: Global, text: &[u8]) -> Result<Name, AllocError>
     }
 }
 
-fn name_in(alloc: Global, bytes: &[u8], at: &mut usize) -> Result<Name, PropRefused>
+/// Reads a text at the place `at`, and moves `at` behind it (MQTT 1.5.4). A refusal is `Spelling` or `Memory`, and leaves
+/// `at`.
+pub fn take_name(alloc: Global, bytes: &[u8], at: &mut usize) -> Result<Name, PropRefused>
     ensures exact { TakesOne result
         (or_spelling (text_at (drop at.old bytes.now))) bytes.now at.old at.new }
+    ensures moves { OnOk result (at.old < at.new) }
     ensures fits { IfOk result (λ n. IsShortText n) }
 {
     let mut behind = *at;
@@ -106,7 +109,9 @@ fn name_in(alloc: Global, bytes: &[u8], at: &mut usize) -> Result<Name, PropRefu
     Ok(name)
 }
 
-fn blob_in(alloc: Global, bytes: &[u8], at: &mut usize) -> Result<Blob, PropRefused>
+/// Reads binary data at the place `at`, and moves `at` behind it (MQTT 1.5.6). A refusal is `Spelling` or `Memory`, and
+/// leaves `at`.
+pub fn take_blob(alloc: Global, bytes: &[u8], at: &mut usize) -> Result<Blob, PropRefused>
     ensures exact { TakesOne result
         (or_spelling (bin_at (drop at.old bytes.now))) bytes.now at.old at.new }
     ensures fits { IfOk result (λ b. length b ≤ MOST_BIN) }
@@ -124,8 +129,8 @@ fn names_in(alloc: Global, bytes: &[u8], at: &mut usize) -> Result<(Name, Name),
     ensures fits { IfOk result (λ t. IsShortText t.0 × IsShortText t.1) }
 {
     let mut behind = *at;
-    let name = name_in(alloc, bytes, &mut behind)?;
-    let value = name_in(alloc, bytes, &mut behind)?;
+    let name = take_name(alloc, bytes, &mut behind)?;
+    let value = take_name(alloc, bytes, &mut behind)?;
     *at = behind;
     Ok((name, value))
 }
