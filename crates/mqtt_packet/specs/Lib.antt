@@ -8,4 +8,5 @@ pub mod Answer
 pub mod Taking
 pub mod PartLaws
 pub mod EachLaws
+pub mod AnswerLaws
 pub mod Examples

@@ -20,32 +20,45 @@ pub record Held : Type 0 where
 abbrev pub held : Holder → List Prop → Held
 held holder list = record { holder = holder; list = list }
 
-abbrev pub held_by_will : Option Will → List Held
-held_by_will None = []
-held_by_will (Some will) = held In.Will will.props ∷ []
+-- the properties of a packet (MQTT 2.2.2)
+abbrev pub own_list : PlainPacket → Option Held
+own_list (Connect c) = Some (held In.Connect c.props)
+own_list (Connack c) = Some (held In.Connack c.props)
+own_list (Publish p) = Some (held In.Publish p.props)
+own_list (Ack kind a) = Some (held (ack_holder kind) a.props)
+own_list (Subscribe s) = Some (held In.Subscribe s.props)
+own_list (Suback s) = Some (held In.Suback s.props)
+own_list (Unsubscribe u) = Some (held In.Unsubscribe u.props)
+own_list (Unsuback u) = Some (held In.Unsuback u.props)
+own_list Pingreq = None
+own_list Pingresp = None
+own_list (Disconnect d) = Some (held In.Disconnect d.props)
+own_list (Auth a) = Some (held In.Auth a.props)
 
--- the lists of properties that a packet has
-abbrev pub lists_of : PlainPacket → List Held
-lists_of (Connect c) = held In.Connect c.props ∷ held_by_will c.will
-lists_of (Connack c) = held In.Connack c.props ∷ []
-lists_of (Publish p) = held In.Publish p.props ∷ []
-lists_of (Ack kind a) = held (ack_holder kind) a.props ∷ []
-lists_of (Subscribe s) = held In.Subscribe s.props ∷ []
-lists_of (Suback s) = held In.Suback s.props ∷ []
-lists_of (Unsubscribe u) = held In.Unsubscribe u.props ∷ []
-lists_of (Unsuback u) = held In.Unsuback u.props ∷ []
-lists_of Pingreq = []
-lists_of Pingresp = []
-lists_of (Disconnect d) = held In.Disconnect d.props ∷ []
-lists_of (Auth a) = held In.Auth a.props ∷ []
+-- those of a will (MQTT 3.1.3.2)
+abbrev pub list_of_will : Option Will → Option Held
+list_of_will None = None
+list_of_will (Some will) = Some (held In.Will will.props)
+
+abbrev pub will_list : PlainPacket → Option Held
+will_list (Connect c) = list_of_will c.will
+will_list other = None
+
+abbrev pub if_held : (Held → Bool) → Option Held → Bool
+if_held test None = false
+if_held test (Some list) = test list
+
+-- whether a list of a packet passes a test
+abbrev pub in_lists : (Held → Bool) → PlainPacket → Bool
+in_lists test packet = if_held test (own_list packet) || if_held test (will_list packet)
 
 -- a property stands twice where it may not (MQTT 2.2.2.2 and with each property)
-abbrev pub repeats : PlainPacket → Bool
-repeats packet = list_any (λ (h : Held). has_repeated h.holder h.list) (lists_of packet)
+abbrev pub is_repeated : Held → Bool
+is_repeated h = has_repeated h.holder h.list
 
 -- a property has a value that isn't allowed
-abbrev pub has_bad_value : PlainPacket → Bool
-has_bad_value packet = list_any (λ (h : Held). list_any is_bad h.list) (lists_of packet)
+abbrev pub is_bad_list : Held → Bool
+is_bad_list h = list_any is_bad h.list
 
 -- Authentication Data without Authentication Method (MQTT 3.1.2.11.10)
 abbrev pub is_data_alone : List Prop → Bool
@@ -60,8 +73,8 @@ abbrev pub is_wild : Option (List ℕ) → Bool
 is_wild None = false
 is_wild (Some topic) = has_wildcard topic
 
-abbrev pub has_wild_response : PlainPacket → Bool
-has_wild_response packet = list_any (λ (h : Held). is_wild (first_of (text_in 0x08) h.list)) (lists_of packet)
+abbrev pub is_wild_list : Held → Bool
+is_wild_list h = is_wild (first_of (text_in 0x08) h.list)
 
 abbrev pub is_nothing : {A : Type 0} → List A → Bool
 is_nothing [] = true
@@ -84,10 +97,10 @@ has_bad_options other = false
 -- the least that is broken
 abbrev pub broken_rule : PlainPacket → Option ℕ
 broken_rule packet =
-    if repeats packet then Some 4
-    else if has_bad_value packet then Some 5
+    if in_lists is_repeated packet then Some 4
+    else if in_lists is_bad_list packet then Some 5
     else if lacks_method packet then Some 6
-    else if has_wild_response packet then Some 7
+    else if in_lists is_wild_list packet then Some 7
     else if lacks_filter packet then Some 10
     else if has_bad_options packet then Some 11
     else None

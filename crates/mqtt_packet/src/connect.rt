@@ -1,5 +1,5 @@
-ghost use Rattle.std.specs.Prelude.{◌≡◌, drop, Option, Some};
-ghost use Rattle.std.specs.Option.{option_map};
+ghost use Rattle.std.specs.Prelude.{◌≡◌, drop, IfErr};
+ghost use Rattle.mqtt_packet.specs.declared.refused.ReadRefused;
 ghost use Rattle.mqtt_packet.specs.Packet.{plain};
 ghost use Rattle.mqtt_packet.specs.Reading.{is_mqtt_5, protocol_at, start_at, will_of, will_at, if_told, login_at, name_at, blob_at, connect_in};
 ghost use Rattle.mqtt_packet.specs.Taking.{TakesPart, GivesPart};
@@ -30,6 +30,7 @@ pub(crate) fn protocol_in<'a>(
 ) -> Result<(&'a [u8], u8), ReadRefused>
     ensures exact { TakesPart (λ p. (p.0.now, p.1)) result
         (protocol_at (drop at.old bytes.now)) bytes.now at.new }
+    ensures refused { IfErr result (λ e. e ≡ ReadRefused.Malformed) }
 {
     let name = take_text(bytes, at)?;
     let version = byte_in(bytes, at)?;

@@ -5,10 +5,17 @@ mod acks;
 mod connect;
 mod filters;
 mod flags;
+mod kinds;
 mod message;
 mod packet;
 mod parts;
+mod reading;
 mod refused;
+mod rules;
 
 pub use packet::{AckKind, Packet, Will, Wish};
+pub use reading::read;
 pub use refused::ReadRefused;
+pub use rules::{
+    BAD_OPTIONS, BAD_VALUE, NO_AUTHENTICATION_METHOD, NO_FILTER, REPEATED_PROPERTY, WILD_RESPONSE_TOPIC,
+};

@@ -15,6 +15,7 @@ use wire_fields::{take_u8, take_u16};
 pub(crate) fn byte_in(bytes: &[u8], at: &mut usize) -> Result<u8, ReadRefused>
     ensures exact { TakesPart (λ n. n) result
         (byte_at (drop at.old bytes.now)) bytes.now at.new }
+    ensures refused { IfErr result (λ e. e ≡ ReadRefused.Malformed) }
     ensures moves { IfOk result (λ n. at.old < at.new) }
 {
     Ok(take_u8(bytes, at)?)
