@@ -1,5 +1,5 @@
 -- Writing order moves properties, and changes nothing else.
-use Rattle.std.proofs.Common.{◌≡◌, ℕ, ◌<◌, Bool, true, false, cond, not, ◌&&◌, ◌||◌, eqb, List, [], ◌∷◌, ◌++◌, length, All, refl, sym, ap, subst, ◌∙◌, arith, inl, inr}
+use Rattle.std.proofs.Common.{◌≡◌, ℕ, ◌<◌, Bool, true, false, cond, not, ◌||◌, eqb, List, [], ◌∷◌, ◌++◌, length, All, refl, sym, ap, subst, ◌∙◌, arith, inl, inr}
 use Rattle.std.specs.Prelude.{nat_lt}
 use Rattle.std.specs.List.{list_all, filter}
 use Rattle.std.specs.List.Sorted.{IsPermutation}
@@ -11,7 +11,7 @@ use Rattle.std.proofs.lemmas.List.Sorted.{IsPermutation-refl, IsPermutation-tran
 use Rattle.mqtt_props.specs.declared.table.Holder.{Holder}
 use Rattle.mqtt_props.specs.declared.prop.Prop.{Prop}
 use Rattle.mqtt_props.specs.Prop.{id_of, spelled_prop, IsProp, IsPropIn}
-use Rattle.mqtt_props.specs.Props.{gathered, identifiers, in_writing_order, spelled_bare, IsArranged}
+use Rattle.mqtt_props.specs.Props.{gathered, identifiers, in_writing_order, spelled_bare, AreProps, IsArranged}
 use Rattle.mqtt_props.specs.OrderLaws.{among, ascends, AllAmong, all_in_table}
 
 -- those of an identifier, and the others
@@ -138,6 +138,9 @@ gathered_again all (k ∷ ks) ps asc in_it =
 pub order_again : (ps : List Prop) → in_writing_order (in_writing_order ps) ≡ in_writing_order ps
 unfolding in_writing_order
 order_again ps = gathered_again identifiers identifiers ps refl refl
+
+pub order_is_kept : (ps : List Prop) → All IsProp ps → AreProps (in_writing_order ps)
+order_is_kept ps h = record { fits = order_keeps IsProp ps h; ordered = order_again ps }
 
 -- ---- lists that are arranged
 

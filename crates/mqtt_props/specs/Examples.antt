@@ -2,10 +2,10 @@
 use Rattle.std.specs.Prelude.{◌≡◌, [], ◌∷◌, codes, Ok, Err, refl}
 use Rattle.wire_fields.specs.Computing.{computing}
 use Rattle.mqtt_props.specs.declared.table.Holder.TheVariants.{Connect, Publish, Will}
-use Rattle.mqtt_props.specs.declared.prop.Prop.TheVariants.{Byte, Pair}
+use Rattle.mqtt_props.specs.declared.prop.Prop.TheVariants.{Byte, Var, Pair}
 use Rattle.mqtt_props.specs.declared.refused.PropRefused.TheVariants.{Unknown, Misplaced, Spelling, Repeated, BadValue}
 use Rattle.mqtt_props.specs.Reading.{prop_at}
-use Rattle.mqtt_props.specs.Props.{each_within, in_writing_order, whole_props, spelled_props}
+use Rattle.mqtt_props.specs.Props.{each_within, in_writing_order, whole_props, props_at, list_at, spelled_props}
 
 user_property : prop_at Publish (0x26 ∷ 0x00 ∷ 0x01 ∷ 0x61 ∷ 0x00 ∷ 0x01 ∷ 0x62 ∷ 0x01 ∷ 0x01 ∷ []) ≡ Ok (Pair (codes "a") (codes "b"), 0x01 ∷ 0x01 ∷ [])
 unfolding computing prop_at
@@ -72,3 +72,22 @@ length_too_long = refl
 byte_behind : whole_props Publish (0x00 ∷ 0x04 ∷ []) ≡ Err Spelling
 unfolding computing prop_at each_within in_writing_order
 byte_behind = refl
+
+-- a list with a repeated property and a bad value is read by `list_at` alone, and the byte behind it stays
+two_that_are_bad : list_at Publish (0x04 ∷ 0x01 ∷ 0x02 ∷ 0x01 ∷ 0x00 ∷ 0x61 ∷ []) ≡ Ok (Byte 0x01 0x02 ∷ Byte 0x01 0x00 ∷ [], 0x61 ∷ [])
+unfolding computing prop_at each_within in_writing_order
+two_that_are_bad = refl
+
+two_that_are_refused : props_at Publish (0x04 ∷ 0x01 ∷ 0x02 ∷ 0x01 ∷ 0x00 ∷ 0x61 ∷ []) ≡ Err Repeated
+unfolding computing prop_at each_within in_writing_order
+two_that_are_refused = refl
+
+-- in any order, and bytes behind that are no property
+bad_identifier_read : list_at Publish (0x09 ∷ 0x26 ∷ 0x00 ∷ 0x01 ∷ 0x61 ∷ 0x00 ∷ 0x01 ∷ 0x62 ∷ 0x0B ∷ 0x00 ∷ 0x04 ∷ 0x04 ∷ []) ≡ Ok (Var 0 ∷ Pair (codes "a") (codes "b") ∷ [], 0x04 ∷ 0x04 ∷ [])
+unfolding computing prop_at each_within in_writing_order
+bad_identifier_read = refl
+
+-- a property that doesn't stand there is refused, behind one that is repeated too
+repeated_then_misplaced : list_at Will (0x06 ∷ 0x01 ∷ 0x02 ∷ 0x01 ∷ 0x02 ∷ 0x21 ∷ 0x01 ∷ 0x61 ∷ []) ≡ Err Misplaced
+unfolding computing prop_at each_within in_writing_order
+repeated_then_misplaced = refl

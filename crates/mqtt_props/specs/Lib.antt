@@ -7,9 +7,10 @@ pub mod Examples
 pub mod TypeLaws
 pub mod OrderLaws
 pub mod EachLaws
-pub mod KeptLaws
 pub mod ListLaws
+pub mod RefusedLaws
 pub mod ArrangedLaws
+pub mod KeptLaws
 pub mod SpelledLaws
 pub mod FoundLaws
 pub mod Sizes

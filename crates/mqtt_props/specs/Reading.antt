@@ -55,6 +55,10 @@ named_at holder id = then_read (type_in id.0 holder) (λ value. value_at value i
 unfoldable pub prop_at : Holder → List ℕ → Result (Prop × List ℕ) PropRefused
 prop_at holder bytes = then_read (or_spelling (var_at bytes)) (named_at holder)
 
+-- a refusal for what the bytes are, and not for how often a property is there or what is in it
+abbrev pub IsOfBytes : PropRefused → Type 0
+IsOfBytes e = (e ≡ Unknown) ⊎ ((e ≡ Misplaced) ⊎ (e ≡ Spelling))
+
 -- want of memory says nothing of the bytes
 abbrev pub UnlessMemory : PropRefused → Type 0 → Type 0
 UnlessMemory Memory claim = Unit {0}

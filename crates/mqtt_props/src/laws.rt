@@ -1,12 +1,16 @@
-ghost use Rattle.std.specs.Prelude.{◌≡◌, ◌≤◌, ◌++◌, ℕ, Bool, true, List, length, All, Ok};
+ghost use Rattle.std.specs.Prelude.{◌≡◌, ◌≤◌, ◌++◌, [], ◌∷◌, ℕ, Bool, true, List, length, All, Ok, Err};
 ghost use Rattle.std.specs.List.Sorted.{IsPermutation};
+ghost use Rattle.wire_fields.specs.Spelled.{spelled_var};
 ghost use Rattle.wire_fields.specs.Reading.{AreBytes};
 ghost use Rattle.mqtt_props.specs.declared.prop.Prop.{Prop};
+ghost use Rattle.mqtt_props.specs.declared.refused.PropRefused.{PropRefused};
 ghost use Rattle.mqtt_props.specs.declared.table.Holder.{Holder};
+ghost use Rattle.mqtt_props.specs.declared.table.Holder.TheVariants.{Publish};
 ghost use Rattle.mqtt_props.specs.Prop.{IsProp, IsPropIn, spelled_prop};
-ghost use Rattle.mqtt_props.specs.Reading.{prop_at};
-ghost use Rattle.mqtt_props.specs.Props.{arranged, bare_props, in_writing_order, list_at, props_at, spelled_bare, spelled_props, FitsIn, IsArranged, SpellsBare, SpellsSized, TookList};
-ghost use Rattle.mqtt_props.specs.Sizes.{bare_size, prop_size, props_size};
+ghost use Rattle.mqtt_props.specs.Reading.{then_read, prop_at, IsOfBytes};
+ghost use Rattle.mqtt_props.specs.Props.{arranged, bare_list, bare_props, checked, in_writing_order, list_at, props_at, spelled_bare, spelled_props, AreProps, FitsIn, IsArranged, SpellsBare, SpellsSized, TookList};
+ghost use Rattle.mqtt_props.specs.Lookup.{forwarded};
+ghost use Rattle.mqtt_props.specs.Sizes.{var_size, prop_size, bare_size, props_size};
 
 use wire_fields::MOST_VAR;
 
@@ -41,6 +45,24 @@ pub fn read_was_spelled()
         (qs : List Prop) × TookList holder bytes qs ps rest }
 {}
 
+/// A law: a list that is refused for a repeated property or a bad value is read to its end first, and then checked.
+pub fn checks_come_last()
+    ensures bare { (holder : Holder) (bytes : List ℕ) →
+        bare_props holder bytes ≡ then_read (bare_list holder bytes) (checked holder) }
+    ensures whole { (holder : Holder) (bytes : List ℕ) →
+        props_at holder bytes ≡ then_read (list_at holder bytes)
+        (λ x. then_read (checked holder x.0) (λ ps. Ok (ps, x.1))) }
+{}
+
+/// A law: a property, and a list where neither repeated properties nor bad values are looked at, is refused as
+/// `Unknown`, `Misplaced` or `Spelling` alone.
+pub fn refused_for_its_bytes()
+    ensures prop { (holder : Holder) (bytes : List ℕ) (e : PropRefused) →
+        prop_at holder bytes ≡ Err e → IsOfBytes e }
+    ensures list { (holder : Holder) (bytes : List ℕ) (e : PropRefused) →
+        list_at holder bytes ≡ Err e → IsOfBytes e }
+{}
+
 /// A law: no list with its length in front begins another of the same holder, and one spelling that is written is of
 /// one list.
 pub fn none_begins_another()
@@ -51,9 +73,10 @@ pub fn none_begins_another()
 {}
 
 /// A law: writing order loses and adds nothing, so that the list takes as many bytes; each property may still stand
-/// there and still passes a test; and a second time it changes nothing.
+/// where it may, and still passes a test; and a second time it changes nothing.
 pub fn order_keeps_all()
     ensures moves { (ps : List Prop) → All IsProp ps → IsPermutation ps (in_writing_order ps) }
+    ensures props { (ps : List Prop) → All IsProp ps → AreProps (in_writing_order ps) }
     ensures fits { (holder : Holder) (ps : List Prop) → All (IsPropIn holder) ps →
         All (IsPropIn holder) (in_writing_order ps) }
     ensures each { (test : Prop → Bool) (ps : List Prop) → All (λ p. test p ≡ true) ps →
@@ -75,8 +98,23 @@ pub fn written_is_arranged()
         in_writing_order ps ≡ ps }
 {}
 
-/// A law: how many bytes a property, a list, and a list with its length in front take (MQTT 2.2.2).
+/// A law: where one is added (`Props::add`), and where those are kept that a server sends on (`Props::keep_forwarded`),
+/// what may stand there still may. What is sent on may stand in PUBLISH, also where it came with a will (MQTT 3.3.2.3).
+pub fn changed_lists_fit()
+    ensures added { (holder : Holder) (ps : List Prop) (p : Prop) → All (IsPropIn holder) ps →
+        IsPropIn holder p → All (IsPropIn holder) (in_writing_order (ps ++ p ∷ [])) }
+    ensures forwarded { (holder : Holder) (ps : List Prop) → All (IsPropIn holder) ps →
+        All (IsPropIn holder) (forwarded ps) }
+    ensures whole { (holder : Holder) (ps : List Prop) → FitsIn holder ps →
+        FitsIn holder (forwarded ps) }
+    ensures in_publish { (ps : List Prop) → All IsProp ps →
+        All (IsPropIn Publish) (forwarded ps) }
+{}
+
+/// A law: how many bytes a variable byte integer, a property, a list, and a list with its length in front take (MQTT
+/// 1.5.5, 2.2.2).
 pub fn sizes_are_numbers()
+    ensures var { (n : ℕ) → length (spelled_var n) ≡ var_size n }
     ensures prop { (p : Prop) → IsProp p → length (spelled_prop p) ≡ prop_size p }
     ensures bare { (ps : List Prop) → All IsProp ps → length (spelled_bare ps) ≡ bare_size ps }
     ensures whole { (ps : List Prop) → All IsProp ps → length (spelled_props ps) ≡ props_size ps }

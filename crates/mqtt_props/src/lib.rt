@@ -6,13 +6,17 @@
 //!
 //! A list is read in any order, and kept and written by ascending identifier, equal ones in their order. A refusal is
 //! `Unknown`, `Misplaced` or `Spelling`, by what comes first in the bytes, the length in front before all; where none
-//! of these stands it is `Repeated`, and else `BadValue`. What was written is read again as the same list, and what was
-//! read was spelled so. A list may stand without its length in front too, as a stored message keeps it.
+//! of these stands it is `Repeated`, and else `BadValue`. `take_list` reads what is repeated or has a bad value too, so
+//! that a packet is read to its end first: `Props::has_repeated` and `Props::has_bad` tell afterwards. What was written
+//! is read again as the same list, and what was read was spelled so. A list may stand without its length in front too,
+//! as a stored message keeps it.
 //!
 //! Read `specs/Table.antt` first, the types of properties and what each may stand in, then `specs/Prop.antt`, how one
 //! is spelled, `specs/Reading.antt` and `specs/Props.antt`, how one and a list are read. `specs/Lookup.antt` has the
-//! look-ups, and what goes on to subscribers, and `specs/Examples.antt` what computes. `specs/SpelledLaws.antt` and
-//! `FoundLaws.antt` have the laws for the layers above.
+//! look-ups, and what goes on to subscribers, `specs/Sizes.antt` how many bytes each takes, and `specs/Examples.antt`
+//! what computes. The laws for the layers above are in `specs/SpelledLaws.antt`, `FoundLaws.antt`, `ArrangedLaws.antt`
+//! (writing order), `KeptLaws.antt` (lists that were changed), `SizeLaws.antt` and `RefusedLaws.antt`; `ListLaws.antt`
+//! says that a list which is refused for more than its bytes is read first, and then checked.
 #![tactic(auto)]
 
 mod laws;
@@ -26,8 +30,8 @@ mod refused;
 mod table;
 
 pub use laws::{
-    none_begins_another, order_keeps_all, read_was_spelled, sizes_are_numbers, spelled_is_read,
-    written_is_arranged,
+    changed_lists_fit, checks_come_last, none_begins_another, order_keeps_all, read_was_spelled,
+    refused_for_its_bytes, sizes_are_numbers, spelled_is_read, written_is_arranged,
 };
 pub use prop::{Prop, write_prop};
 pub use props::{Props, read, read_bare, take_list, take_props, write, write_bare};

@@ -1,5 +1,6 @@
-ghost use Rattle.std.specs.Prelude.{◌≡◌, ◌≤◌, ◌++◌, [], ◌∷◌, length, drop, All, IfOk, OnOk, OnErr};
+ghost use Rattle.std.specs.Prelude.{◌≡◌, ◌≤◌, ◌++◌, [], ◌∷◌, length, drop, All, IfOk, IfErr, OnOk, OnErr};
 ghost use Rattle.std.specs.List.{list_any};
+ghost use Rattle.mqtt_props.specs.declared.refused.PropRefused.TheVariants.{Repeated, BadValue};
 ghost use Rattle.mqtt_props.specs.Prop.{is_bad, IsProp, IsPropIn};
 ghost use Rattle.mqtt_props.specs.Reading.{TakesOne};
 ghost use Rattle.mqtt_props.specs.Lookup.{forwarded};
@@ -178,8 +179,9 @@ pub fn read(alloc: Global, holder: Holder, bytes: &[u8]) -> Result<Props, PropRe
 
 /// Reads a list of properties with its length in front from the place `at` of a packet, in any order, and moves `at`
 /// behind it. A property that is repeated or has a bad value is no refusal: `Props::has_repeated` and `Props::has_bad`
-/// tell. A length that passes the end is `Spelling`, before all else; then `Unknown`, `Misplaced` and `Spelling` come by
-/// place in the bytes. A refusal leaves `at` (MQTT 2.2.2).
+/// tell. A length that passes the end is `Spelling`, before all else; then `Unknown`, `Misplaced` and `Spelling` come
+/// by place in the bytes. A refusal leaves `at` (MQTT 2.2.2).
+#[tactic(auto, using(crate::specs::RefusedLaws::never_checked))]
 pub fn take_list(
     alloc: Global,
     holder: Holder,
@@ -192,6 +194,8 @@ pub fn take_list(
     // What is read may stand there.
     ensures fits { IfOk result (λ ps. All (IsPropIn holder) ps) }
     ensures stays { OnErr result (at.new ≡ at.old) }
+    // Neither is looked at.
+    ensures never { IfErr result (λ e. (e ≡ Repeated → ⊥) × (e ≡ BadValue → ⊥)) }
 {
     let mut behind = *at;
     let size = take_var(bytes, &mut behind)? as usize;
