@@ -9,4 +9,7 @@ pub mod Taking
 pub mod PartLaws
 pub mod EachLaws
 pub mod AnswerLaws
+pub mod Putting
+pub mod PutLaws
+pub mod Sizes
 pub mod Examples

@@ -14,7 +14,7 @@ use topic_name::{Blob, Name};
 use wire_fields::take_text;
 
 /// The version of the protocol that is read (MQTT 3.1.2.2).
-const VERSION: u8 = 5;
+pub(crate) const VERSION: u8 = 5;
 
 // Whether these are the protocol's name and its version (MQTT 3.1.2.1, 3.1.2.2).
 pub(crate) fn is_mqtt_5(name: &[u8], version: u8) -> bool

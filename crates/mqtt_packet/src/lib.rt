@@ -4,14 +4,17 @@
 mod acks;
 mod connect;
 mod filters;
+mod first;
 mod flags;
 mod kinds;
 mod message;
 mod packet;
 mod parts;
+mod putting;
 mod reading;
 mod refused;
 mod rules;
+mod writing;
 
 pub use packet::{AckKind, Packet, Will, Wish};
 pub use reading::read;

