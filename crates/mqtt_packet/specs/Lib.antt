@@ -12,4 +12,5 @@ pub mod AnswerLaws
 pub mod Putting
 pub mod PutLaws
 pub mod Sizes
+pub mod SizeLaws
 pub mod Examples

@@ -31,7 +31,7 @@ var_sized n =
     ∙ ap (λ (k : ℕ). cond (nat_lt n 128) 1 (suc k)) (second ∙ ap (λ (k : ℕ). cond (nat_lt (n / 128) 128) 1 (suc k)) third)
     ∙ counted n
 
-bin_sized : (bytes : List ℕ) → length (spelled_bin bytes) ≡ 2 + length bytes
+pub bin_sized : (bytes : List ℕ) → length (spelled_bin bytes) ≡ 2 + length bytes
 bin_sized bytes = length-append (to_be_bytes w16 (length bytes)) bytes ∙ ap (λ (n : ℕ). n + length bytes) (wide16.len (length bytes))
 
 value_sized : (p : Prop) → length (spelled_value p) ≡ value_size p
