@@ -13,4 +13,5 @@ pub mod Putting
 pub mod PutLaws
 pub mod Sizes
 pub mod SizeLaws
+pub mod ToldLaws
 pub mod Examples

@@ -1,6 +1,6 @@
 -- Laws of writing part by part.
-use Rattle.std.proofs.Common.{◌≡◌, ℕ, List, [], ◌++◌, refl, sym, ap, ◌∙◌, append_assoc}
-use Rattle.std.proofs.lemmas.List.{append-nil}
+use Rattle.std.proofs.Common.{◌≡◌, ℕ, List, [], ◌++◌, length, take, refl, sym, ap, ◌∙◌, append_assoc}
+use Rattle.std.proofs.lemmas.List.{append-nil, take_at}
 use Rattle.mqtt_packet.specs.Putting.{Begins}
 
 -- nothing was put
@@ -22,3 +22,8 @@ begins_further old part between new is further =
 -- two parts were put, and no more
 pub begins_behind_two : (old one two first second new : List ℕ) → first ≡ old ++ one → second ≡ first ++ two → new ≡ second → Begins old new
 begins_behind_two old one two first second new is more same = begins_further old one first new is (begins_behind_part first two second new more same)
+
+-- what was put is taken back
+pub taken_back : (old new : List ℕ) → Begins old new → take (length old) new ≡ old
+unfolding Begins
+taken_back old new b = ap (take (length old)) b.1 ∙ take_at old b.0 (length old) refl

@@ -1,5 +1,5 @@
 -- How long a packet is as it is written, as a number computed from its fields (MQTT 2.1.4, 3).
-use Rattle.std.specs.Prelude.{ℕ, zero, suc, ◌+◌, ◌==◌, if◌then◌else◌, false, List, [], ◌∷◌, length, Option, Some, None, codes, ◌≡◌, refl}
+use Rattle.std.specs.Prelude.{ℕ, zero, suc, ◌+◌, ◌==◌, nat_le, if◌then◌else◌, false, List, [], ◌∷◌, length, Option, Some, None, codes, ◌≡◌, refl}
 use Rattle.std.specs.List.{sum_by}
 use Rattle.mqtt_props.specs.declared.prop.Prop.{Prop}
 use Rattle.mqtt_props.specs.Sizes.{var_size, props_size}
@@ -76,3 +76,7 @@ acknowledged = refl
 
 with_a_reason : packet_size (ack Puback 7 0x10 []) ≡ 5
 with_a_reason = refl
+
+-- its length, where a Remaining Length tells that of the body (MQTT 2.1.4)
+abbrev pub told_size : PlainPacket → Option ℕ
+told_size packet = if nat_le (body_size packet) 268435455 then Some (packet_size packet) else None

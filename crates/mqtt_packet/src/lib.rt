@@ -7,6 +7,7 @@ mod filters;
 mod first;
 mod flags;
 mod kinds;
+mod length;
 mod message;
 mod packet;
 mod parts;

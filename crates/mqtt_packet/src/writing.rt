@@ -9,6 +9,7 @@ ghost use Rattle.mqtt_packet.specs.Putting.{Puts, AreTold};
 ghost use Rattle.mqtt_packet.specs.Spelling.{ack_body, end_body, auth_body, written_body, written};
 
 use crate::first::{bit, connect_flags, first_byte};
+use crate::length::body_size;
 use crate::packet::Packet;
 use crate::putting::{
     put_bytes, put_id_and_props, put_names, put_payload, put_props_and, put_reason_and_props,
@@ -152,5 +153,25 @@ fn put_packet(packet: &Packet, size: u32, out: &mut Vec<u8>) -> Result<(), Alloc
 {
     put_header(first_byte(packet), size, out)?;
     put_body(packet, out)?;
+    Ok(())
+}
+
+/// Writes a packet at the end, in its shortest form, with its properties by ascending identifier (MQTT 2.1). On want of
+/// memory `out` stays as it was.
+#[tactic(auto, using(crate::specs::ToldLaws::lists_are_told))]
+pub fn write(packet: &Packet, out: &mut Vec<u8>) -> Result<(), AllocError>
+    // Its fields fit, its properties may stand there, and `written_length` tells that its length can be told.
+    requires { IsPacket (plain packet.now) }
+    ensures ok { OnOk result (out.new.items ≡ out.old.items ++ written (plain packet.now)) }
+    ensures err { OnErr result (out.new.items ≡ out.old.items) }
+{
+    let Some(size) = body_size(packet) else {
+        unreachable!()
+    };
+    let before = out.len();
+    if let Err(error) = put_packet(packet, size, out) {
+        out.truncate(before);
+        return Err(error);
+    }
     Ok(())
 }

@@ -4,6 +4,7 @@ ghost use Rattle.mqtt_props.specs.declared.refused.PropRefused.TheVariants.{Repe
 ghost use Rattle.mqtt_props.specs.Prop.{is_bad, IsProp, IsPropIn};
 ghost use Rattle.mqtt_props.specs.Reading.{TakesOne};
 ghost use Rattle.mqtt_props.specs.Lookup.{forwarded};
+ghost use Rattle.mqtt_props.specs.Sizes.{props_size};
 ghost use Rattle.mqtt_props.specs.Props.{all_stand_in, has_repeated, in_writing_order, bare_list, list_at, checked, bare_props, whole_props, props_at, spelled_bare, spelled_props, if_var, AreProps, FitsIn, GivesAs};
 
 use crate::listing::{
@@ -15,7 +16,7 @@ use crate::refused::PropRefused;
 use crate::table::Holder;
 use std::alloc::{AllocError, Global};
 use std::marker::Model;
-use wire_fields::{MOST_VAR, put_var, take_var};
+use wire_fields::{MOST_VAR, put_var, take_var, var_length};
 
 /// The properties of a packet or a will: each of its type, by ascending identifier, equal ones in their order. Seen as
 /// their list.
@@ -102,6 +103,20 @@ impl Props {
         ensures { result ≡ if_var (length (spelled_bare self.now)) }
     {
         bare_length(&self.list)
+    }
+
+    /// How many bytes `write` puts: their length in front, and themselves (MQTT 2.2.2).
+    pub fn written_length(&self) -> usize
+        // `length` tells.
+        requires { length (spelled_bare self.now) ≤ MOST_VAR }
+        ensures bytes { result ≡ length (spelled_props self.now) }
+        ensures exact { result ≡ props_size self.now }
+        ensures few { result ≤ 268435459 }
+    {
+        let Some(bare) = bare_length(&self.list) else {
+            unreachable!()
+        };
+        var_length(bare) + bare as usize
     }
 }
 
