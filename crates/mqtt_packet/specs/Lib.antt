@@ -15,3 +15,17 @@ pub mod Sizes
 pub mod SizeLaws
 pub mod ToldLaws
 pub mod Examples
+pub mod ReaderLaws
+pub mod FlagLaws
+pub mod FieldLaws
+pub mod TailLaws
+pub mod AckLaws
+pub mod BodyLaws
+pub mod PublishLaws
+pub mod WillLaws
+pub mod ConnectLaws
+pub mod FrameLaws
+pub mod VersionLaws
+pub mod ExactLaws
+pub mod WrittenLaws
+pub mod ArrangedLaws

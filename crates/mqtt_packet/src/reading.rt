@@ -1,6 +1,8 @@
 ghost use Rattle.std.specs.Prelude.{◌≡◌, IfOk};
 ghost use Rattle.std.specs.Option.{option_map};
 ghost use Rattle.mqtt_packet.specs.Packet.{plain};
+ghost use Rattle.mqtt_packet.specs.Fits.{IsPacket};
+ghost use Rattle.mqtt_packet.specs.Spells.{Spells};
 ghost use Rattle.mqtt_packet.specs.Reading.{framed_in};
 ghost use Rattle.mqtt_packet.specs.Answer.{answer, is_other, protocol_in, AnswersAs};
 
@@ -53,6 +55,9 @@ fn is_other_version(first: u8, body: &[u8]) -> bool
 pub fn read(alloc: Global, bytes: &[u8]) -> Result<Packet, ReadRefused>
     // What it gives, computed.
     ensures exact { AnswersAs plain result (answer bytes.now) }
+    // What is read was spelled so, and can be written.
+    ensures spells { IfOk result (λ p. Spells bytes.now (plain p)) }
+    ensures fits { IfOk result (λ p. IsPacket (plain p)) }
 {
     let Some((first, body)) = framed_in(bytes) else {
         return Err(ReadRefused::Malformed);
