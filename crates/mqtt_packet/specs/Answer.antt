@@ -1,5 +1,5 @@
 -- What reading bytes answers: the packet, or why there is none.
-use Rattle.std.specs.Prelude.{ℕ, Bool, false, not, ◌==◌, if◌then◌else◌, List, [], ◌∷◌, Option, Some, None, Result, Ok, Err, ◌≡◌}
+use Rattle.std.specs.Prelude.{ℕ, Bool, false, not, ◌==◌, if◌then◌else◌, List, Option, Some, None, Result, Ok, Err, ◌≡◌}
 use Rattle.mqtt_packet.specs.declared.refused.ReadRefused.{ReadRefused}
 use Rattle.mqtt_packet.specs.declared.refused.ReadRefused.TheVariants.{Version, Malformed, Protocol, Memory}
 use Rattle.mqtt_packet.specs.Packet.{PlainPacket}

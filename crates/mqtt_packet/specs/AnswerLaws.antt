@@ -1,5 +1,5 @@
 -- The answer, step by step.
-use Rattle.std.proofs.Common.{◌≡◌, ℕ, ◌*◌, Bool, true, false, cond, List, Option, Some, None, Result, Ok, Err, refl, sym, ap, ◌∙◌}
+use Rattle.std.proofs.Common.{◌≡◌, ℕ, Bool, true, false, cond, List, Option, Some, None, Result, Err, ap, ◌∙◌}
 use Rattle.std.specs.Prelude.{◌/◌, ◌%◌}
 use Rattle.mqtt_packet.specs.declared.refused.ReadRefused.{ReadRefused}
 use Rattle.mqtt_packet.specs.declared.refused.ReadRefused.TheVariants.{Version, Malformed, Protocol, Memory}

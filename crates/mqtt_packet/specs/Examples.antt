@@ -1,12 +1,12 @@
 -- Computed examples: what these bytes are read as, and how these packets are written.
 use Rattle.std.specs.Prelude.{ℕ, false, true, List, [], ◌∷◌, ◌++◌, Some, None, Ok, Err, codes, ◌≡◌, refl}
 use Rattle.wire_fields.specs.Computing.{computing}
-use Rattle.mqtt_props.specs.declared.prop.Prop.TheVariants.{Byte, Two, Four, Pair, Bin}
+use Rattle.mqtt_props.specs.declared.prop.Prop.TheVariants.{Byte, Four, Pair}
 use Rattle.mqtt_props.specs.Reading.{prop_at}
 use Rattle.mqtt_props.specs.Props as Lists
 use Rattle.mqtt_packet.specs.declared.packet.AckKind.TheVariants.{Puback, Pubrel}
 use Rattle.mqtt_packet.specs.declared.refused.ReadRefused.TheVariants.{Version, Malformed, Protocol}
-use Rattle.mqtt_packet.specs.Packet.{PlainPacket, Connect, Connack, Publish, ack, Subscribe, Suback, Unsubscribe, Pingreq, Disconnect, Auth}
+use Rattle.mqtt_packet.specs.Packet.{PlainPacket, Connect, Publish, ack, Pingreq, Disconnect, Auth}
 use Rattle.mqtt_packet.specs.Spelling.{written}
 use Rattle.mqtt_packet.specs.Reading.{each_within, packet_in}
 use Rattle.mqtt_packet.specs.Answer.{answer, is_other_version}
@@ -55,8 +55,13 @@ long_length = refl
 -- client `a`, Clean Start, and a will of QoS 1
 connect_of_a : PlainPacket
 connect_of_a = Connect (record {
-    clean = true; keep_alive = 60; props = Four 0x11 3600 ∷ []; client = codes "a";
-    will = Some (record { qos = 1; retain = false; props = []; topic = codes "t"; payload = codes "x" }); user = None; password = None;
+  clean = true;
+  keep_alive = 60;
+  props = Four 0x11 3600 ∷ [];
+  client = codes "a";
+  will = Some (record { qos = 1; retain = false; props = []; topic = codes "t"; payload = codes "x" });
+  user = None;
+  password = None;
 })
 
 bytes_of_a : List ℕ

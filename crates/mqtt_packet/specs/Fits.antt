@@ -1,7 +1,6 @@
 -- Which fields a packet may have: each in its range, with the ties between them, and properties that may stand there.
-use Rattle.std.specs.Prelude.{ℕ, zero, suc, ◌<◌, ◌≤◌, ◌^◌, Bool, false, ◌||◌, ◌==◌, List, [], ◌∷◌, length, All, Option, Some, None, ◌≡◌}
+use Rattle.std.specs.Prelude.{ℕ, zero, suc, ◌<◌, ◌≤◌, ◌^◌, Bool, false, ◌||◌, ◌==◌, List, length, All, Option, Some, None, ◌≡◌}
 use Rattle.std.specs.List.{list_any}
-use Rattle.mqtt_props.specs.declared.prop.Prop.{Prop}
 use Rattle.mqtt_props.specs.declared.table.Holder.{Holder}
 use Rattle.mqtt_props.specs.declared.table.Holder.TheVariants as In
 use Rattle.mqtt_props.specs.Prop.{IsPropIn, IsShortText}

@@ -1,8 +1,6 @@
 -- A packet as the definitions see it: its kind and its fields, over lists and numbers (MQTT 3).
-use Rattle.std.specs.Prelude.{ℕ, Bool, List, Option, Some, None}
+use Rattle.std.specs.Prelude.{ℕ, Bool, List, Option}
 use Rattle.mqtt_props.specs.declared.prop.Prop.{Prop}
-use Rattle.mqtt_props.specs.declared.table.Holder.{Holder}
-use Rattle.mqtt_props.specs.declared.table.Holder.TheVariants as OfKind
 use Rattle.mqtt_packet.specs.declared.packet.Will.{Will}
 use Rattle.mqtt_packet.specs.declared.packet.Wish.{Wish}
 use Rattle.mqtt_packet.specs.declared.packet.AckKind.{AckKind}

@@ -1,5 +1,5 @@
 -- Laws of the parts of a packet that its readers cite.
-use Rattle.std.proofs.Common.{◌≡◌, ℕ, ◌<◌, List, [], ◌∷◌, length, drop, Option, Some, None, Err, refl, ap, arith}
+use Rattle.std.proofs.Common.{◌≡◌, ℕ, ◌<◌, List, [], ◌∷◌, length, drop, None, Err, refl, ap, arith}
 use Rattle.std.proofs.lemmas.List.{length-drop}
 use Rattle.wire_fields.specs.declared.cut.Cut.{Cut}
 use Rattle.wire_fields.specs.Reading.{u8_at}

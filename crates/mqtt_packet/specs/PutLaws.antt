@@ -27,3 +27,6 @@ begins_behind_two old one two first second new is more same = begins_further old
 pub taken_back : (old new : List ℕ) → Begins old new → take (length old) new ≡ old
 unfolding Begins
 taken_back old new b = ap (take (length old)) b.1 ∙ take_at old b.0 (length old) refl
+
+-- what a call that writes several parts may cite
+pub ruleset parts_begin = (begins_itself, begins_behind_part, begins_behind_two, begins_further)

@@ -1,5 +1,5 @@
 -- The packet that bytes spell, none where they spell none, computed part by part (MQTT 2.1, 3).
-use Rattle.std.specs.Prelude.{ℕ, zero, suc, ◌-◌, ◌*◌, ◌/◌, ◌%◌, nat_lt, Bool, true, false, ◌&&◌, ◌||◌, not, ◌==◌, if◌then◌else◌, List, [], ◌∷◌, length, Option, Some, None, Result, Ok, Err, codes}
+use Rattle.std.specs.Prelude.{ℕ, zero, suc, ◌/◌, ◌%◌, nat_lt, Bool, ◌&&◌, not, ◌==◌, if◌then◌else◌, List, [], ◌∷◌, length, Option, Some, None, Result, Ok, Err, codes}
 use Rattle.std.specs.Str.{bytes_eq}
 use Rattle.wire_fields.specs.declared.cut.Cut.{Cut}
 use Rattle.wire_fields.specs.Reading.{u8_at, u16_at, var_at, text_at, bin_at}
@@ -95,10 +95,10 @@ are_flags flags =
 
 abbrev pub flags_in : ℕ → Option ConnectFlags
 flags_in flags = only_if (are_flags flags) (Some (record {
-    clean = is_odd (flags / 2);
-    will = will_flags_in flags;
-    password = is_odd (flags / 64);
-    user = is_odd (flags / 128);
+  clean = is_odd (flags / 2);
+  will = will_flags_in flags;
+  password = is_odd (flags / 64);
+  user = is_odd (flags / 128);
 }))
 
 -- the version of the protocol that is read (MQTT 3.1.2.1, 3.1.2.2)
@@ -113,7 +113,7 @@ protocol_at bytes = name_at bytes >>= λ name. byte_at name.1 >>= λ version. So
 abbrev pub start_at : List ℕ → Option ((ConnectFlags × ℕ) × List ℕ)
 start_at bytes =
     protocol_at bytes >>= λ protocol. only_if (is_mqtt_5 protocol.0.0 protocol.0.1) (
-        byte_at protocol.1 >>= λ flags. flags_in flags.0 >>= λ known. two_at flags.1 >>= λ seconds. Some ((known, seconds.0), seconds.1))
+    byte_at protocol.1 >>= λ flags. flags_in flags.0 >>= λ known. two_at flags.1 >>= λ seconds. Some ((known, seconds.0), seconds.1))
 
 -- a part of the payload that the flags tell of, or none
 abbrev pub some_at : {A : Type 0} → Option (A × List ℕ) → Option (Option A × List ℕ)
@@ -125,7 +125,7 @@ if_told told read bytes = if told then some_at (read bytes) else Some (None, byt
 abbrev pub will_of : WillFlags → List ℕ → Option (Will × List ℕ)
 will_of flags bytes =
     props_at In.Will bytes >>= λ props. topic_at props.1 >>= λ topic. blob_at topic.1 >>= λ payload.
-        Some (record { qos = flags.qos; retain = flags.retain; props = props.0; topic = topic.0; payload = payload.0 }, payload.1)
+    Some (record { qos = flags.qos; retain = flags.retain; props = props.0; topic = topic.0; payload = payload.0 }, payload.1)
 
 abbrev pub will_at : Option WillFlags → List ℕ → Option (Option Will × List ℕ)
 will_at None bytes = Some (None, bytes)
@@ -139,19 +139,24 @@ login_at flags bytes =
 abbrev pub connect_in : List ℕ → Option PlainPacket
 connect_in body =
     start_at body >>= λ start. props_at In.Connect start.1 >>= λ props. name_at props.1 >>= λ client.
-        will_at start.0.0.will client.1 >>= λ will. login_at start.0.0 will.1 >>= λ login.
-            at_end (Connect (record {
-                clean = start.0.0.clean; keep_alive = start.0.1; props = props.0; client = client.0;
-                will = will.0; user = login.0.0; password = login.0.1;
-            })) login.1
+    will_at start.0.0.will client.1 >>= λ will. login_at start.0.0 will.1 >>= λ login.
+    at_end (Connect (record {
+      clean = start.0.0.clean;
+      keep_alive = start.0.1;
+      props = props.0;
+      client = client.0;
+      will = will.0;
+      user = login.0.0;
+      password = login.0.1;
+    })) login.1
 
 -- ---- CONNACK (MQTT 3.2): in its flags only bit 0 may be set
 
 abbrev pub connack_in : List ℕ → Option PlainPacket
 connack_in body =
     byte_at body >>= λ flags. only_if (nat_lt flags.0 2) (
-        byte_at flags.1 >>= λ reason. props_at In.Connack reason.1 >>= λ props.
-            at_end (Connack (record { present = flags.0 == 1; reason = reason.0; props = props.0 })) props.1)
+    byte_at flags.1 >>= λ reason. props_at In.Connack reason.1 >>= λ props.
+    at_end (Connack (record { present = flags.0 == 1; reason = reason.0; props = props.0 })) props.1)
 
 -- ---- PUBLISH (MQTT 3.3)
 
@@ -166,12 +171,12 @@ id_if qos bytes = if qos == 0 then Some (0, bytes) else id_at bytes
 abbrev pub message_in : Bool → ℕ → Bool → List ℕ → Option PlainPacket
 message_in dup qos retain body =
     topic_at body >>= λ topic. id_if qos topic.1 >>= λ id. props_at In.Publish id.1 >>= λ props.
-        Some (Publish (record { dup = dup; qos = qos; retain = retain; topic = topic.0; id = id.0; props = props.0; payload = props.1 }))
+    Some (Publish (record { dup = dup; qos = qos; retain = retain; topic = topic.0; id = id.0; props = props.0; payload = props.1 }))
 
 abbrev pub publish_in : ℕ → List ℕ → Option PlainPacket
 publish_in flags body =
     only_if (are_publish_flags (is_odd (flags / 8)) (flags / 2 % 4))
-        (message_in (is_odd (flags / 8)) (flags / 2 % 4) (is_odd flags) body)
+    (message_in (is_odd (flags / 8)) (flags / 2 % 4) (is_odd flags) body)
 
 -- ---- PUBACK, PUBREC, PUBREL and PUBCOMP (MQTT 3.4 to 3.7): what is not there is reason 0, and no properties
 
@@ -186,7 +191,7 @@ reason_if_there (b ∷ bytes) = (b, bytes)
 abbrev pub ack_in : AckKind → List ℕ → Option PlainPacket
 ack_in kind body =
     id_at body >>= λ id. props_if_there (ack_holder kind) (reason_if_there id.1).1 >>= λ props.
-        at_end (ack kind id.0 (reason_if_there id.1).0 props.0) props.1
+    at_end (ack kind id.0 (reason_if_there id.1).0 props.0) props.1
 
 -- ---- SUBSCRIBE and UNSUBSCRIBE (MQTT 3.8, 3.10)
 
@@ -194,17 +199,17 @@ ack_in kind body =
 abbrev pub wish_at : List ℕ → Option (Wish × List ℕ)
 wish_at bytes =
     name_at bytes >>= λ filter. byte_at filter.1 >>= λ options.
-        only_if (nat_lt options.0 64) (Some (record { filter = filter.0; options = options.0 }, options.1))
+    only_if (nat_lt options.0 64) (Some (record { filter = filter.0; options = options.0 }, options.1))
 
 abbrev pub subscribe_in : List ℕ → Option PlainPacket
 subscribe_in body =
     id_at body >>= λ id. props_at In.Subscribe id.1 >>= λ props. each_at wish_at props.1 >>= λ filters.
-        Some (Subscribe (record { id = id.0; props = props.0; filters = filters }))
+    Some (Subscribe (record { id = id.0; props = props.0; filters = filters }))
 
 abbrev pub unsubscribe_in : List ℕ → Option PlainPacket
 unsubscribe_in body =
     id_at body >>= λ id. props_at In.Unsubscribe id.1 >>= λ props. each_at name_at props.1 >>= λ filters.
-        Some (Unsubscribe (record { id = id.0; props = props.0; filters = filters }))
+    Some (Unsubscribe (record { id = id.0; props = props.0; filters = filters }))
 
 -- ---- SUBACK and UNSUBACK (MQTT 3.9, 3.11)
 

@@ -1,5 +1,5 @@
 -- The rules of the protocol that a packet's bytes alone may break (MQTT 4.13.1, Protocol Error), by number.
-use Rattle.std.specs.Prelude.{ℕ, Bool, true, false, ◌&&◌, ◌||◌, not, ◌==◌, ◌/◌, ◌%◌, if◌then◌else◌, List, [], ◌∷◌, Option, Some, None, is_some, is_none}
+use Rattle.std.specs.Prelude.{ℕ, Bool, true, false, ◌&&◌, ◌||◌, ◌==◌, ◌/◌, ◌%◌, if◌then◌else◌, List, [], ◌∷◌, Option, Some, None, is_some, is_none}
 use Rattle.std.specs.List.{list_any}
 use Rattle.mqtt_props.specs.declared.prop.Prop.{Prop}
 use Rattle.mqtt_props.specs.declared.table.Holder.{Holder}

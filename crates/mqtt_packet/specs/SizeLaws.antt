@@ -1,5 +1,5 @@
 -- A packet is as long as its fields say.
-use Rattle.std.proofs.Common.{◌≡◌, ℕ, zero, suc, ◌+◌, ◌*◌, ◌≤◌, Bool, true, false, cond, eqb, List, [], ◌∷◌, ◌++◌, length, Option, Some, None, All, refl, sym, ap, ◌∙◌, arith, codes}
+use Rattle.std.proofs.Common.{◌≡◌, ℕ, zero, suc, ◌+◌, Bool, true, false, cond, eqb, List, [], ◌∷◌, ◌++◌, length, Option, Some, None, All, refl, ap, arith, codes}
 use Rattle.std.specs.List.{flat_map, sum_by}
 use Rattle.std.proofs.lemmas.List.{length-append}
 use Rattle.std.proofs.lemmas.List.Sums.{sum_by-cons}
@@ -10,16 +10,16 @@ use Rattle.mqtt_props.specs.declared.prop.Prop.{Prop}
 use Rattle.mqtt_props.specs.declared.table.Holder.{Holder}
 use Rattle.mqtt_props.specs.declared.table.Holder.TheVariants as In
 use Rattle.mqtt_props.specs.Prop.{IsPropIn}
-use Rattle.mqtt_props.specs.Props.{spelled_bare, spelled_props}
-use Rattle.mqtt_props.specs.Sizes.{var_size, bare_size, props_size}
-use Rattle.mqtt_props.specs.SizeLaws.{var_sized, bin_sized, bare_sized, props_sized}
+use Rattle.mqtt_props.specs.Props.{spelled_props}
+use Rattle.mqtt_props.specs.Sizes.{var_size, props_size}
+use Rattle.mqtt_props.specs.SizeLaws.{var_sized, bin_sized, props_sized}
 use Rattle.mqtt_packet.specs.declared.packet.Will.{Will}
 use Rattle.mqtt_packet.specs.declared.packet.Wish.{Wish}
 use Rattle.mqtt_packet.specs.declared.packet.AckKind.{AckKind}
-use Rattle.mqtt_packet.specs.Packet.{PlainPacket, Connect, Connack, Publish, Ack, Subscribe, Suback, Unsubscribe, Unsuback, Pingreq, Pingresp, Disconnect, Auth, ConnectFields, ConnackFields, PublishFields, AckFields, SubscribeFields, AnswerFields, UnsubscribeFields, EndFields}
+use Rattle.mqtt_packet.specs.Packet.{PlainPacket, Connect, Connack, Publish, Ack, Subscribe, Suback, Unsubscribe, Unsuback, Pingreq, Pingresp, Disconnect, Auth, ConnectFields, PublishFields, AckFields, EndFields}
 use Rattle.mqtt_packet.specs.Fits.{Fits, FitsWill, IfThere, ack_holder}
-use Rattle.mqtt_packet.specs.Spelling.{bit, connect_flags, first_byte, if_there, spelled_will, spelled_id, spelled_wish, short_ack, short_end, whole_body, ack_body, end_body, auth_body, written_body, written}
-use Rattle.mqtt_packet.specs.Sizes.{sized, sized_if, will_size, connect_size, id_size, publish_size, reason_size, rest_size, auth_size, wish_size, body_size, packet_size}
+use Rattle.mqtt_packet.specs.Spelling.{bit, connect_flags, if_there, spelled_will, spelled_id, spelled_wish, whole_body, ack_body, end_body, auth_body, written_body, written}
+use Rattle.mqtt_packet.specs.Sizes.{sized, sized_if, will_size, connect_size, id_size, publish_size, rest_size, auth_size, wish_size, body_size, packet_size}
 
 -- ---- parts
 

@@ -1,5 +1,5 @@
 -- How a packet is spelled: its kind and flags, and the parts of its body in order (MQTT 2.1, 3).
-use Rattle.std.specs.Prelude.{ℕ, zero, suc, ◌+◌, ◌*◌, Bool, true, false, ◌==◌, if◌then◌else◌, List, [], ◌∷◌, ◌++◌, Option, Some, None, is_some, codes}
+use Rattle.std.specs.Prelude.{ℕ, zero, suc, ◌+◌, ◌*◌, Bool, true, false, ◌==◌, if◌then◌else◌, List, [], ◌∷◌, Option, Some, None, is_some, codes}
 use Rattle.std.specs.List.{flat_map}
 use Rattle.wire_fields.specs.Spelled.{spelled_u8, spelled_u16, spelled_text, spelled_bin}
 use Rattle.mqtt_frame.specs.PlainFramer.{joined}
@@ -10,7 +10,7 @@ use Rattle.mqtt_packet.specs.declared.packet.Will.{Will}
 use Rattle.mqtt_packet.specs.declared.packet.Wish.{Wish}
 use Rattle.mqtt_packet.specs.declared.packet.AckKind.{AckKind}
 use Rattle.mqtt_packet.specs.declared.packet.AckKind.TheVariants.{Puback, Pubrec, Pubrel, Pubcomp}
-use Rattle.mqtt_packet.specs.Packet.{PlainPacket, Connect, Connack, Publish, Ack, Subscribe, Suback, Unsubscribe, Unsuback, Pingreq, Pingresp, Disconnect, Auth, ConnectFields, ConnackFields, PublishFields, AckFields, SubscribeFields, AnswerFields, UnsubscribeFields, EndFields}
+use Rattle.mqtt_packet.specs.Packet.{PlainPacket, Connect, Connack, Publish, Ack, Subscribe, Suback, Unsubscribe, Unsuback, Pingreq, Pingresp, Disconnect, Auth, ConnectFields, AckFields, EndFields}
 
 -- ---- the first byte
 

@@ -1,5 +1,5 @@
 -- Which bytes spell which packet (MQTT 2.1, 3): any order of properties, and the short forms and the long ones.
-use Rattle.std.specs.Prelude.{ℕ, ◌≤◌, List, [], ◌∷◌, ◌++◌, length, ◌≡◌, ◌⊎◌}
+use Rattle.std.specs.Prelude.{ℕ, ◌≤◌, List, [], ◌∷◌, length, ◌≡◌, ◌⊎◌}
 use Rattle.wire_fields.specs.Spelled.{spelled_u8, spelled_u16}
 use Rattle.mqtt_frame.specs.PlainFramer.{joined}
 use Rattle.mqtt_frame.specs.Packets.{packet_of}

@@ -1,12 +1,12 @@
 -- A packet whose length can be told has lists of properties whose lengths can be told.
-use Rattle.std.proofs.Common.{◌≡◌, ℕ, ◌+◌, ◌≤◌, Bool, cond, List, [], ◌∷◌, length, Option, Some, None, All, sym, ap, ◌∙◌, arith}
+use Rattle.std.proofs.Common.{◌≡◌, ℕ, ◌≤◌, Bool, cond, List, [], ◌∷◌, length, Option, Some, None, All, sym, ap, ◌∙◌, arith}
 use Rattle.std.proofs.lemmas.Bool.{le-leb}
 use Rattle.mqtt_props.specs.declared.prop.Prop.{Prop}
 use Rattle.mqtt_props.specs.declared.table.Holder.{Holder}
 use Rattle.mqtt_props.specs.declared.table.Holder.TheVariants as In
 use Rattle.mqtt_props.specs.Prop.{IsPropIn}
 use Rattle.mqtt_props.specs.Props.{spelled_bare, if_var}
-use Rattle.mqtt_props.specs.Sizes.{bare_size, props_size}
+use Rattle.mqtt_props.specs.Sizes.{bare_size}
 use Rattle.mqtt_props.specs.SizeLaws.{bare_sized}
 use Rattle.mqtt_packet.specs.declared.packet.Will.{Will}
 use Rattle.mqtt_packet.specs.Packet.{PlainPacket, Connect, Connack, Publish, Ack, Subscribe, Suback, Unsubscribe, Unsuback, Pingreq, Pingresp, Disconnect, Auth}

@@ -76,11 +76,7 @@ pub(crate) fn unsubscribe_in(alloc: Global, body: &[u8]) -> Result<Packet, ReadR
 }
 
 // The fields of a SUBACK or an UNSUBACK: identifier, properties and reasons.
-fn answer_in(
-    alloc: Global,
-    holder: Holder,
-    body: &[u8],
-) -> Result<(u16, Props, Blob), ReadRefused>
+fn answer_in(alloc: Global, holder: Holder, body: &[u8]) -> Result<(u16, Props, Blob), ReadRefused>
     ensures exact { GivesPart answer_of result (answer_in holder body.now) }
 {
     let mut at = 0;

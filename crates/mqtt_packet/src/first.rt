@@ -4,8 +4,8 @@ ghost use Rattle.mqtt_packet.specs.Fits.{Fits, IfThere};
 ghost use Rattle.mqtt_packet.specs.Spelling.{bit, kind_of, ack_number, publish_flags, flags_of, first_byte, will_flags};
 
 use crate::kinds::{
-    AUTH, CONNACK, CONNECT, DISCONNECT, PINGREQ, PINGRESP, PUBACK, PUBCOMP, PUBLISH, PUBREC, PUBREL,
-    SUBACK, SUBSCRIBE, UNSUBACK, UNSUBSCRIBE, fixed_flags,
+    AUTH, CONNACK, CONNECT, DISCONNECT, PINGREQ, PINGRESP, PUBACK, PUBCOMP, PUBLISH, PUBREC,
+    PUBREL, SUBACK, SUBSCRIBE, UNSUBACK, UNSUBSCRIBE, fixed_flags,
 };
 use crate::packet::{AckKind, Packet, Will};
 
@@ -72,7 +72,10 @@ pub(crate) fn first_byte(packet: &Packet) -> u8
     let kind = kind_of(packet);
     let flags = match packet {
         Packet::Publish {
-            dup, qos, retain, ..
+            dup,
+            qos,
+            retain,
+            ..
         } => publish_flags(*dup, *qos, *retain),
         _ => fixed_flags(kind),
     };

@@ -14,19 +14,33 @@ use std::alloc::Global;
 
 // The numbers of the kinds (MQTT 2.1.2).
 pub(crate) const CONNECT: u8 = 1;
+
 pub(crate) const CONNACK: u8 = 2;
+
 pub(crate) const PUBLISH: u8 = 3;
+
 pub(crate) const PUBACK: u8 = 4;
+
 pub(crate) const PUBREC: u8 = 5;
+
 pub(crate) const PUBREL: u8 = 6;
+
 pub(crate) const PUBCOMP: u8 = 7;
+
 pub(crate) const SUBSCRIBE: u8 = 8;
+
 pub(crate) const SUBACK: u8 = 9;
+
 pub(crate) const UNSUBSCRIBE: u8 = 10;
+
 pub(crate) const UNSUBACK: u8 = 11;
+
 pub(crate) const PINGREQ: u8 = 12;
+
 pub(crate) const PINGRESP: u8 = 13;
+
 pub(crate) const DISCONNECT: u8 = 14;
+
 pub(crate) const AUTH: u8 = 15;
 
 // The flags of a kind that has no choice of them (MQTT 2.1.3).

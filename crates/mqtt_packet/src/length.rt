@@ -170,9 +170,7 @@ pub(crate) fn body_size(packet: &Packet) -> Option<u32>
             user,
             password,
             ..
-        } => if_var(
-            10 + props.written_length() + payload_size(client, will, user, password),
-        ),
+        } => if_var(10 + props.written_length() + payload_size(client, will, user, password)),
         Packet::Connack { props, .. } => if_var(2 + props.written_length()),
         Packet::Publish {
             qos,

@@ -54,13 +54,29 @@ pub enum Packet {
         payload: Blob,
     },
     /// The answer to a PUBLISH of QoS 1 (MQTT 3.4).
-    Puback { id: u16, reason: u8, props: Props },
+    Puback {
+        id: u16,
+        reason: u8,
+        props: Props,
+    },
     /// The first answer to a PUBLISH of QoS 2 (MQTT 3.5).
-    Pubrec { id: u16, reason: u8, props: Props },
+    Pubrec {
+        id: u16,
+        reason: u8,
+        props: Props,
+    },
     /// The answer to a PUBREC (MQTT 3.6).
-    Pubrel { id: u16, reason: u8, props: Props },
+    Pubrel {
+        id: u16,
+        reason: u8,
+        props: Props,
+    },
     /// The answer to a PUBREL (MQTT 3.7).
-    Pubcomp { id: u16, reason: u8, props: Props },
+    Pubcomp {
+        id: u16,
+        reason: u8,
+        props: Props,
+    },
     /// A client asks for what its filters match (MQTT 3.8).
     Subscribe {
         id: u16,
@@ -68,7 +84,11 @@ pub enum Packet {
         filters: Vec<Wish>,
     },
     /// The answer to a SUBSCRIBE, a reason for each filter (MQTT 3.9).
-    Suback { id: u16, props: Props, reasons: Blob },
+    Suback {
+        id: u16,
+        props: Props,
+        reasons: Blob,
+    },
     /// A client ends subscriptions (MQTT 3.10).
     Unsubscribe {
         id: u16,
@@ -76,15 +96,25 @@ pub enum Packet {
         filters: Vec<Name>,
     },
     /// The answer to an UNSUBSCRIBE, a reason for each filter (MQTT 3.11).
-    Unsuback { id: u16, props: Props, reasons: Blob },
+    Unsuback {
+        id: u16,
+        props: Props,
+        reasons: Blob,
+    },
     /// A client tells that it is there (MQTT 3.12).
     Pingreq,
     /// The answer to a PINGREQ (MQTT 3.13).
     Pingresp,
     /// The last packet of a connection, either way (MQTT 3.14).
-    Disconnect { reason: u8, props: Props },
+    Disconnect {
+        reason: u8,
+        props: Props,
+    },
     /// A step of enhanced authentication, either way (MQTT 3.15).
-    Auth { reason: u8, props: Props },
+    Auth {
+        reason: u8,
+        props: Props,
+    },
 }
 
 /// The four kinds that acknowledge one another: an identifier, a reason and properties (MQTT 3.4 to 3.7).

@@ -18,7 +18,7 @@ use wire_fields::{MOST_BIN, MOST_VAR, put_bin, put_text, put_u8, put_u16};
 
 // Each puts a part of a packet at the end. On want of memory some of it may stand there.
 
-#[tactic(auto, using(crate::specs::PutLaws::begins_itself))]
+#[tactic(auto, using(crate::specs::PutLaws::parts_begin))]
 pub(crate) fn put_bytes(bytes: &[u8], out: &mut Vec<u8>) -> Result<(), AllocError>
     ensures exact { Puts result out.old.items out.new.items bytes.now }
 {
@@ -27,7 +27,7 @@ pub(crate) fn put_bytes(bytes: &[u8], out: &mut Vec<u8>) -> Result<(), AllocErro
 }
 
 // An identifier, and the properties.
-#[tactic(auto, using(crate::specs::PutLaws::begins_itself, crate::specs::PutLaws::begins_behind_part))]
+#[tactic(auto, using(crate::specs::PutLaws::parts_begin))]
 pub(crate) fn put_id_and_props(id: u16, props: &Props, out: &mut Vec<u8>) -> Result<(), AllocError>
     requires { length (spelled_bare props.now) ≤ MOST_VAR }
     ensures exact { Puts result out.old.items out.new.items
@@ -39,7 +39,7 @@ pub(crate) fn put_id_and_props(id: u16, props: &Props, out: &mut Vec<u8>) -> Res
 }
 
 // A reason, and the properties.
-#[tactic(auto, using(crate::specs::PutLaws::begins_itself, crate::specs::PutLaws::begins_behind_part))]
+#[tactic(auto, using(crate::specs::PutLaws::parts_begin))]
 pub(crate) fn put_reason_and_props(
     reason: u8,
     props: &Props,
@@ -55,7 +55,7 @@ pub(crate) fn put_reason_and_props(
 }
 
 // The properties, and the bytes that end a body.
-#[tactic(auto, using(crate::specs::PutLaws::begins_itself, crate::specs::PutLaws::begins_behind_part))]
+#[tactic(auto, using(crate::specs::PutLaws::parts_begin))]
 pub(crate) fn put_props_and(
     props: &Props,
     bytes: &[u8],
@@ -71,7 +71,7 @@ pub(crate) fn put_props_and(
 }
 
 // The name and the version of the protocol, and the flags of a CONNECT (MQTT 3.1.2.1 to 3.1.2.3).
-#[tactic(auto, using(crate::specs::PutLaws::begins_itself, crate::specs::PutLaws::begins_behind_part))]
+#[tactic(auto, using(crate::specs::PutLaws::parts_begin))]
 fn put_protocol(flags: u8, out: &mut Vec<u8>) -> Result<(), AllocError>
     ensures exact { Puts result out.old.items out.new.items
         (joined (spelled_text (codes "MQTT") ∷ spelled_u8 5 ∷ spelled_u8 flags ∷ [])) }
@@ -82,7 +82,7 @@ fn put_protocol(flags: u8, out: &mut Vec<u8>) -> Result<(), AllocError>
 }
 
 // What stands in front of the payload of a CONNECT (MQTT 3.1.2).
-#[tactic(auto, using(crate::specs::PutLaws::begins_itself, crate::specs::PutLaws::begins_behind_part, crate::specs::PutLaws::begins_further))]
+#[tactic(auto, using(crate::specs::PutLaws::parts_begin))]
 pub(crate) fn put_start(
     flags: u8,
     keep_alive: u16,
@@ -92,19 +92,20 @@ pub(crate) fn put_start(
     requires { length (spelled_bare props.now) ≤ MOST_VAR }
     ensures exact { Puts result out.old.items out.new.items
         (joined (spelled_text (codes "MQTT") ∷ spelled_u8 5 ∷ spelled_u8 flags
-            ∷ spelled_u16 keep_alive ∷ spelled_props props.now ∷ [])) }
+        ∷ spelled_u16 keep_alive ∷ spelled_props props.now ∷ [])) }
 {
     put_protocol(flags, out)?;
     put_id_and_props(keep_alive, props, out)?;
     Ok(())
 }
 
-#[tactic(auto, using(crate::specs::PutLaws::begins_itself, crate::specs::PutLaws::begins_behind_part, crate::specs::PutLaws::begins_behind_two))]
+#[tactic(auto, using(crate::specs::PutLaws::parts_begin))]
 fn put_will_of(will: &Will, out: &mut Vec<u8>) -> Result<(), AllocError>
     requires props { length (spelled_bare will.now.props) ≤ MOST_VAR }
     requires fits { FitsWill will.now }
     ensures exact { Puts result out.old.items out.new.items
-        (joined (spelled_props will.now.props ∷ spelled_text will.now.topic ∷ spelled_bin will.now.payload ∷ [])) }
+        (joined (spelled_props will.now.props ∷ spelled_text will.now.topic
+        ∷ spelled_bin will.now.payload ∷ [])) }
 {
     put_props(&will.props, out)?;
     put_text(will.topic.bytes(), out)?;
@@ -112,7 +113,7 @@ fn put_will_of(will: &Will, out: &mut Vec<u8>) -> Result<(), AllocError>
     Ok(())
 }
 
-#[tactic(auto, using(crate::specs::PutLaws::begins_itself))]
+#[tactic(auto, using(crate::specs::PutLaws::parts_begin))]
 fn put_will(will: &Option<Will>, out: &mut Vec<u8>) -> Result<(), AllocError>
     requires props { IfThere IsTold (list_of_will will.now) }
     requires fits { IfThere FitsWill will.now }
@@ -124,7 +125,7 @@ fn put_will(will: &Option<Will>, out: &mut Vec<u8>) -> Result<(), AllocError>
     }
 }
 
-#[tactic(auto, using(crate::specs::PutLaws::begins_itself))]
+#[tactic(auto, using(crate::specs::PutLaws::parts_begin))]
 fn put_user(user: &Option<Name>, out: &mut Vec<u8>) -> Result<(), AllocError>
     requires { IfThere IsShort user.now }
     ensures exact { Puts result out.old.items out.new.items (if_there spelled_text user.now) }
@@ -135,7 +136,7 @@ fn put_user(user: &Option<Name>, out: &mut Vec<u8>) -> Result<(), AllocError>
     Ok(())
 }
 
-#[tactic(auto, using(crate::specs::PutLaws::begins_itself))]
+#[tactic(auto, using(crate::specs::PutLaws::parts_begin))]
 fn put_password(password: &Option<Blob>, out: &mut Vec<u8>) -> Result<(), AllocError>
     requires { IfThere IsShort password.now }
     ensures exact { Puts result out.old.items out.new.items (if_there spelled_bin password.now) }
@@ -147,7 +148,7 @@ fn put_password(password: &Option<Blob>, out: &mut Vec<u8>) -> Result<(), AllocE
 }
 
 // User name and password (MQTT 3.1.3.5, 3.1.3.6).
-#[tactic(auto, using(crate::specs::PutLaws::begins_itself, crate::specs::PutLaws::begins_behind_part, crate::specs::PutLaws::begins_further))]
+#[tactic(auto, using(crate::specs::PutLaws::parts_begin))]
 fn put_login(
     user: &Option<Name>,
     password: &Option<Blob>,
@@ -164,12 +165,8 @@ fn put_login(
 }
 
 // The client identifier and the will (MQTT 3.1.3.1 to 3.1.3.4).
-#[tactic(auto, using(crate::specs::PutLaws::begins_itself, crate::specs::PutLaws::begins_behind_part, crate::specs::PutLaws::begins_further))]
-fn put_client(
-    client: &Name,
-    will: &Option<Will>,
-    out: &mut Vec<u8>,
-) -> Result<(), AllocError>
+#[tactic(auto, using(crate::specs::PutLaws::parts_begin))]
+fn put_client(client: &Name, will: &Option<Will>, out: &mut Vec<u8>) -> Result<(), AllocError>
     requires client { IsShort client.now }
     requires props { IfThere IsTold (list_of_will will.now) }
     requires fits { IfThere FitsWill will.now }
@@ -182,7 +179,7 @@ fn put_client(
 }
 
 // The payload of a CONNECT (MQTT 3.1.3).
-#[tactic(auto, using(crate::specs::PutLaws::begins_further))]
+#[tactic(auto, using(crate::specs::PutLaws::parts_begin))]
 pub(crate) fn put_payload(
     client: &Name,
     will: &Option<Will>,
@@ -197,7 +194,7 @@ pub(crate) fn put_payload(
     requires password { IfThere IsShort password.now }
     ensures exact { Puts result out.old.items out.new.items
         (joined (spelled_text client.now ∷ spelled_will will.now
-            ∷ if_there spelled_text user.now ∷ if_there spelled_bin password.now ∷ [])) }
+        ∷ if_there spelled_text user.now ∷ if_there spelled_bin password.now ∷ [])) }
 {
     put_client(client, will, out)?;
     put_login(user, password, out)?;
@@ -205,13 +202,8 @@ pub(crate) fn put_payload(
 }
 
 // The topic name of a PUBLISH, and its identifier where the QoS is above 0 (MQTT 3.3.2.1, 3.3.2.2).
-#[tactic(auto, using(crate::specs::PutLaws::begins_itself, crate::specs::PutLaws::begins_behind_part))]
-pub(crate) fn put_topic(
-    topic: &Name,
-    qos: u8,
-    id: u16,
-    out: &mut Vec<u8>,
-) -> Result<(), AllocError>
+#[tactic(auto, using(crate::specs::PutLaws::parts_begin))]
+pub(crate) fn put_topic(topic: &Name, qos: u8, id: u16, out: &mut Vec<u8>) -> Result<(), AllocError>
     requires { IsShort topic.now }
     ensures exact { Puts result out.old.items out.new.items
         (joined (spelled_text topic.now ∷ spelled_id qos id ∷ [])) }
@@ -223,7 +215,7 @@ pub(crate) fn put_topic(
     Ok(())
 }
 
-#[tactic(auto, using(crate::specs::PutLaws::begins_itself, crate::specs::PutLaws::begins_behind_part))]
+#[tactic(auto, using(crate::specs::PutLaws::parts_begin))]
 fn put_wish(wish: &Wish, out: &mut Vec<u8>) -> Result<(), AllocError>
     requires { IsWish wish.now }
     ensures exact { Puts result out.old.items out.new.items (spelled_wish wish.now) }
@@ -234,7 +226,7 @@ fn put_wish(wish: &Wish, out: &mut Vec<u8>) -> Result<(), AllocError>
 }
 
 // The filters with their options (MQTT 3.8.3).
-#[tactic(auto, using(crate::specs::PutLaws::begins_itself, crate::specs::PutLaws::begins_further))]
+#[tactic(auto, using(crate::specs::PutLaws::parts_begin))]
 pub(crate) fn put_wishes(wishes: &[Wish], out: &mut Vec<u8>) -> Result<(), AllocError>
     requires { All IsWish wishes.now }
     ensures exact { Puts result out.old.items out.new.items (flat_map spelled_wish wishes.now) }
@@ -246,7 +238,7 @@ pub(crate) fn put_wishes(wishes: &[Wish], out: &mut Vec<u8>) -> Result<(), Alloc
 }
 
 // The filters (MQTT 3.10.3).
-#[tactic(auto, using(crate::specs::PutLaws::begins_itself, crate::specs::PutLaws::begins_behind_part))]
+#[tactic(auto, using(crate::specs::PutLaws::parts_begin))]
 pub(crate) fn put_names(names: &[Name], out: &mut Vec<u8>) -> Result<(), AllocError>
     requires { All IsShortText names.now }
     ensures exact { Puts result out.old.items out.new.items (flat_map spelled_text names.now) }

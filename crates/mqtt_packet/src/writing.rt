@@ -20,7 +20,7 @@ use std::alloc::AllocError;
 use wire_fields::{MOST_VAR, put_u8, put_u16, put_var};
 
 // The body of a PUBACK, PUBREC, PUBREL or PUBCOMP, in the shortest form (MQTT 3.4.2.1).
-#[tactic(auto, using(crate::specs::PutLaws::begins_itself, crate::specs::PutLaws::begins_behind_part, crate::specs::PutLaws::begins_further))]
+#[tactic(auto, using(crate::specs::PutLaws::parts_begin))]
 fn put_ack(id: u16, reason: u8, props: &Props, out: &mut Vec<u8>) -> Result<(), AllocError>
     requires { length (spelled_bare props.now) ≤ MOST_VAR }
     // The same of all four.
@@ -37,7 +37,7 @@ fn put_ack(id: u16, reason: u8, props: &Props, out: &mut Vec<u8>) -> Result<(), 
 }
 
 // The body of a DISCONNECT, in the shortest form (MQTT 3.14.2.1).
-#[tactic(auto, using(crate::specs::PutLaws::begins_itself))]
+#[tactic(auto, using(crate::specs::PutLaws::parts_begin))]
 fn put_end(reason: u8, props: &Props, out: &mut Vec<u8>) -> Result<(), AllocError>
     requires { length (spelled_bare props.now) ≤ MOST_VAR }
     ensures exact { Puts result out.old.items out.new.items
@@ -52,7 +52,7 @@ fn put_end(reason: u8, props: &Props, out: &mut Vec<u8>) -> Result<(), AllocErro
 }
 
 // The body of an AUTH, in the shortest form (MQTT 3.15.2.1).
-#[tactic(auto, using(crate::specs::PutLaws::begins_itself))]
+#[tactic(auto, using(crate::specs::PutLaws::parts_begin))]
 fn put_auth(reason: u8, props: &Props, out: &mut Vec<u8>) -> Result<(), AllocError>
     requires { length (spelled_bare props.now) ≤ MOST_VAR }
     ensures exact { Puts result out.old.items out.new.items
@@ -65,7 +65,7 @@ fn put_auth(reason: u8, props: &Props, out: &mut Vec<u8>) -> Result<(), AllocErr
 }
 
 // What stands behind the length (MQTT 3).
-#[tactic(auto, using(crate::specs::PutLaws::begins_itself, crate::specs::PutLaws::begins_behind_part, crate::specs::PutLaws::begins_further))]
+#[tactic(auto, using(crate::specs::PutLaws::parts_begin))]
 fn put_body(packet: &Packet, out: &mut Vec<u8>) -> Result<(), AllocError>
     requires fits { Fits (plain packet.now) }
     requires told { AreTold (plain packet.now) }
@@ -132,7 +132,7 @@ fn put_body(packet: &Packet, out: &mut Vec<u8>) -> Result<(), AllocError>
 }
 
 // The first byte and the length of what follows (MQTT 2.1).
-#[tactic(auto, using(crate::specs::PutLaws::begins_itself, crate::specs::PutLaws::begins_behind_part))]
+#[tactic(auto, using(crate::specs::PutLaws::parts_begin))]
 fn put_header(first: u8, size: u32, out: &mut Vec<u8>) -> Result<(), AllocError>
     requires { size ≤ MOST_VAR }
     ensures exact { Puts result out.old.items out.new.items (first ∷ spelled_var size) }
@@ -143,7 +143,7 @@ fn put_header(first: u8, size: u32, out: &mut Vec<u8>) -> Result<(), AllocError>
 }
 
 // The header and the body.
-#[tactic(auto, using(crate::specs::PutLaws::begins_itself, crate::specs::PutLaws::begins_further))]
+#[tactic(auto, using(crate::specs::PutLaws::parts_begin))]
 fn put_packet(packet: &Packet, size: u32, out: &mut Vec<u8>) -> Result<(), AllocError>
     requires fits { Fits (plain packet.now) }
     requires told { AreTold (plain packet.now) }

@@ -1,5 +1,4 @@
-use Rattle.std.proofs.Common.{All, subst}
-use Rattle.mqtt_props.specs.Prop.{IsShortText}
+use Rattle.std.proofs.Common.{subst}
 use Rattle.mqtt_packet.specs.Packet.{plain}
 use Rattle.mqtt_packet.specs.Fits.{Fits, FitsSubscribe, FitsUnsubscribe}
 use Rattle.mqtt_packet.proofs.length.body_size.Goals as goal

@@ -1,4 +1,4 @@
-use Rattle.std.proofs.Common.{sym, ◌∙◌, arith}
+use Rattle.std.proofs.Common.{sym, arith}
 use Rattle.std.proofs.lemmas.Result.{err_from_is_err_and}
 use Rattle.mqtt_packet.specs.Packet.{plain}
 use Rattle.mqtt_packet.specs.ArrangedLaws.{can_be_written}
