@@ -1,0 +1,9 @@
+pub mod ShardList
+pub mod Storing
+pub mod Growing
+pub mod LearnedPath
+pub mod Streams
+pub mod Capacity
+pub mod Wanted
+pub mod SweepOrder
+pub mod Examples

@@ -1,0 +1,15 @@
+//! The words of the broker as definitions: topic names and filters, where clients go, the stored message, and the numbers
+//! of all limits.
+//!
+//! Nothing here runs. Contracts and the model above cite these definitions, which compute:
+//!
+//!     matches (levels_of (codes "sport/tennis/+")) (levels_of (codes "sport/tennis/player1")) ≡ true
+//!
+//! Read `specs/Levels.antt` and `specs/Matching.antt` first, then `specs/Texts.antt`, which texts are topic names and
+//! filters and why others are not, `specs/Routing.antt`, and `specs/StoredMessage.antt`. `specs/Profile.antt` has the
+//! limits, and what of the broker is built; `specs/Examples.antt` what computes.
+#![tactic(auto)]
+
+mod refused;
+
+pub use refused::{FilterRefused, TopicRefused};
