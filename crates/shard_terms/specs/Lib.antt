@@ -6,4 +6,13 @@ pub mod Streams
 pub mod Capacity
 pub mod Wanted
 pub mod SweepOrder
+pub mod PatternLaws
+pub mod StreamLaws
+pub mod PathLaws
+pub mod NumberLaws
+pub mod Lists
+pub mod ListLaws
+pub mod OrderLaws
+pub mod GrownLaws
+pub mod GenerationLaws
 pub mod Examples

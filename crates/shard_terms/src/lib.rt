@@ -8,9 +8,16 @@
 //!
 //! Read `specs/ShardList.antt` and `specs/Storing.antt` first, then `specs/LearnedPath.antt` and `specs/Streams.antt`,
 //! `specs/Capacity.antt`, `specs/Wanted.antt` and `specs/SweepOrder.antt`. `specs/Growing.antt` says when one list has
-//! grown from another, and `specs/Examples.antt` has what computes.
+//! grown from another, `specs/Lists.antt` what a list in order is, and `specs/Examples.antt` has what computes. The laws stand
+//! in `src/laws.rt`.
 #![tactic(auto)]
 
+mod laws;
 mod sweep;
 
+pub use laws::{
+    a_placed_topic_keeps_its_path, a_stream_is_a_number, dropping_grows, growing_goes_on,
+    order_means, patterns_are_carried, rotating_grows, storing_grows, streams_are_patterns,
+    streams_stay,
+};
 pub use sweep::Sweep;

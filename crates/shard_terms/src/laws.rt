@@ -1,0 +1,113 @@
+ghost use Rattle.std.specs.Prelude.{◌≡◌, ◌≤◌, ◌<◌, ◌++◌, ◌∷◌, List, ℕ, [], Some, None, map, slice_get};
+ghost use Rattle.topic_terms.specs.StoredMessage.{StoredMessage};
+ghost use Rattle.shard_terms.specs.LearnedPath.{Path, Tokens, patterns_of, learned, learned_path, path_from, number_of};
+ghost use Rattle.shard_terms.specs.Streams.{Held, held_generations, streamed, streams_from, topics_of};
+ghost use Rattle.shard_terms.specs.NumberLaws.{HasNumber};
+ghost use Rattle.topic_terms.specs.Profile.{Config, Profile};
+ghost use Rattle.shard_terms.specs.ShardList.{Cut, ShardList, floor_of, next_of, message_at, newest, oldest_of, opening_list};
+ghost use Rattle.shard_terms.specs.Storing.{Op, store};
+ghost use Rattle.shard_terms.specs.Growing.{HasCut, HasGrown};
+ghost use Rattle.shard_terms.specs.Capacity.{rotated, dropped};
+ghost use Rattle.shard_terms.specs.Lists.{IsList};
+ghost use Rattle.shard_terms.specs.GrownLaws.{HasHeld, Continues};
+
+/// A law: the patterns that are carried along from topic to topic are the distinct paths of the whole list, and give
+/// each later topic the same path.
+pub fn patterns_are_carried()
+    ensures patterns { (top below : ℕ) (topics : List Tokens) →
+        patterns_of top below topics ≡ learned top below [] topics }
+    ensures path { (top below : ℕ) (topics : List Tokens) (topic : Tokens) →
+        learned_path top below topics topic
+        ≡ path_from top below (learned top below [] topics) [] topic }
+{}
+
+/// A law: what was learned and streamed stays as the list grows: more topics are learned over the patterns of those
+/// before, more messages are streamed behind those before, and the number of a pattern stays.
+pub fn streams_are_patterns()
+    ensures learned { (top below : ℕ) (patterns : List Path) (xs ys : List Tokens) →
+        learned top below patterns (xs ++ ys)
+        ≡ learned top below (learned top below patterns xs) ys }
+    ensures streams { (top below : ℕ) (patterns : List Path) (ms more : List StoredMessage) →
+        streams_from top below patterns (ms ++ more) ≡ streams_from top below patterns ms
+        ++ streams_from top below (learned top below patterns (topics_of ms)) more }
+    ensures numbers { (top below : ℕ) (patterns : List Path) (topics : List Tokens)
+        (path : Path) (n : ℕ) → number_of path patterns ≡ Some n →
+        number_of path (learned top below patterns topics) ≡ Some n }
+{}
+
+/// A law: the stream of each message is the number of its topic's learned path among the patterns of all topics, each
+/// topic of a list has such a number, and at its number stands the path.
+pub fn a_stream_is_a_number()
+    ensures streams { (top below : ℕ) (ms : List StoredMessage) →
+        streams_from top below [] ms ≡ map (λ (m : StoredMessage). streamed m
+        (learned_path top below (topics_of ms) m.topic) (patterns_of top below (topics_of ms))) ms }
+    ensures each { (top below : ℕ) (before : List Tokens) (topic : Tokens) (after : List Tokens) →
+        HasNumber (learned_path top below (before ++ topic ∷ after) topic)
+        (patterns_of top below (before ++ topic ∷ after)) }
+    ensures place { (path : Path) (patterns : List Path) (n : ℕ) →
+        number_of path patterns ≡ Some n → slice_get patterns n ≡ Some path }
+{}
+
+/// A law: a topic keeps the path that it was placed by, whatever topics come later.
+pub fn a_placed_topic_keeps_its_path()
+    ensures { (top below : ℕ) (before : List Tokens) (topic : Tokens) (after : List Tokens) →
+        learned_path top below (before ++ topic ∷ after) topic
+        ≡ learned_path top below before topic }
+{}
+
+/// A law: a shard's list begins in order; storing a group leaves it in order, and it has grown.
+pub fn storing_grows()
+    ensures opening { (config : Config) → IsList (opening_list config) }
+    ensures list { (list : ShardList) (ops : List Op) (now : ℕ) →
+        IsList list → IsList (store list ops now) }
+    ensures grown { (list : ShardList) (ops : List Op) (now : ℕ) →
+        IsList list → HasGrown list (store list ops now) }
+{}
+
+/// A law: what a list in order has. Each generation's number lies between those of the oldest and the newest and is its
+/// own, and it begins between the floor and the next offset; the newest alone isn't sealed; and at each offset from the
+/// floor up to the next one lies a message with this offset.
+pub fn order_means()
+    ensures numbers { (list : ShardList) (cut : Cut) → IsList list → HasCut list.cuts cut →
+        ((oldest_of list.cuts).number ≤ cut.number) × (cut.number ≤ (newest list).number) }
+    ensures once { (list : ShardList) (cut other : Cut) → IsList list → HasCut list.cuts cut →
+        HasCut list.cuts other → cut.number ≡ other.number → cut ≡ other }
+    ensures firsts { (list : ShardList) (cut : Cut) → IsList list → HasCut list.cuts cut →
+        (floor_of list ≤ cut.first) × (cut.first ≤ next_of list) }
+    ensures newest { (list : ShardList) → IsList list →
+        HasCut list.cuts (newest list) × ((newest list).sealed ≡ None) }
+    ensures sealed { (list : ShardList) (cut : Cut) → IsList list → HasCut list.cuts cut →
+        cut.sealed ≡ None → cut ≡ newest list }
+    ensures messages { (list : ShardList) (offset : ℕ) → IsList list →
+        floor_of list ≤ offset → offset < next_of list →
+        (m : StoredMessage) × (message_at list offset ≡ Some m) × (m.offset ≡ offset) }
+{}
+
+/// A law: what has grown from a list that has grown has grown from the first.
+pub fn growing_goes_on()
+    ensures { (list later latest : ShardList) → IsList later → IsList latest →
+        HasGrown list later → HasGrown later latest → HasGrown list latest }
+{}
+
+/// A law: sealing the newest generation and beginning a new one leaves a list in order, and it has grown.
+pub fn rotating_grows()
+    ensures list { (config : Config) (now : ℕ) (list : ShardList) →
+        IsList list → IsList (rotated config now list) }
+    ensures grown { (config : Config) (now : ℕ) (list : ShardList) →
+        IsList list → HasGrown list (rotated config now list) }
+{}
+
+/// A law: dropping the oldest generation leaves a list in order, and it has grown: what both hold is the same.
+pub fn dropping_grows()
+    ensures list { (list : ShardList) → IsList list → IsList (dropped list) }
+    ensures grown { (list : ShardList) → IsList list → HasGrown list (dropped list) }
+{}
+
+/// A law: as a list grows, each generation that isn't gone is still held: it ends where it did or later, and its
+/// messages keep their streams, with more messages behind them.
+pub fn streams_stay()
+    ensures { (profile : Profile) (list later : ShardList) (g : Held) →
+        IsList list → IsList later → HasGrown list later →
+        HasHeld (held_generations profile list) g → (oldest_of later.cuts).number ≤ g.cut.number →
+        (other : Held) × HasHeld (held_generations profile later) other × Continues g other }
+{}
