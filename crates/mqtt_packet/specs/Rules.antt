@@ -2,6 +2,7 @@
 use Rattle.std.specs.Prelude.{ℕ, Bool, true, false, ◌&&◌, ◌||◌, ◌==◌, ◌/◌, ◌%◌, if◌then◌else◌, List, [], ◌∷◌, Option, Some, None, is_some, is_none}
 use Rattle.std.specs.List.{list_any}
 use Rattle.mqtt_props.specs.declared.prop.Prop.{Prop}
+use Rattle.mqtt_props.specs.declared.table.TheConstants.{AUTHENTICATION_DATA, AUTHENTICATION_METHOD, RESPONSE_TOPIC}
 use Rattle.mqtt_props.specs.declared.table.Holder.{Holder}
 use Rattle.mqtt_props.specs.declared.table.Holder.TheVariants as In
 use Rattle.mqtt_props.specs.Prop.{is_bad}
@@ -62,7 +63,7 @@ is_bad_list h = list_any is_bad h.list
 
 -- Authentication Data without Authentication Method (MQTT 3.1.2.11.10)
 abbrev pub is_data_alone : List Prop → Bool
-is_data_alone props = is_some (first_of (bin_in 0x16) props) && is_none (first_of (text_in 0x15) props)
+is_data_alone props = is_some (first_of (bin_in AUTHENTICATION_DATA) props) && is_none (first_of (text_in AUTHENTICATION_METHOD) props)
 
 abbrev pub lacks_method : PlainPacket → Bool
 lacks_method (Connect c) = is_data_alone c.props
@@ -74,7 +75,7 @@ is_wild None = false
 is_wild (Some topic) = has_wildcard topic
 
 abbrev pub is_wild_list : Held → Bool
-is_wild_list h = is_wild (first_of (text_in 0x08) h.list)
+is_wild_list h = is_wild (first_of (text_in RESPONSE_TOPIC) h.list)
 
 abbrev pub is_nothing : {A : Type 0} → List A → Bool
 is_nothing [] = true
