@@ -6,4 +6,11 @@ pub mod Acting
 pub mod FitsSession
 pub mod Ends
 pub mod IssuedPrefix
+pub mod Orders
+pub mod ChangeLaws
+pub mod OtherLaws
+pub mod DoneLaws
+pub mod TrackLaws
+pub mod IdentifierLaws
+pub mod OrderLaws
 pub mod Examples

@@ -8,9 +8,14 @@
 //!
 //! Read `specs/PlainSession.antt` and `specs/Entry.antt` first, then `specs/Unfinished.antt`, `specs/Change.antt`,
 //! `specs/Acting.antt` and `specs/FitsSession.antt`. `specs/Ends.antt` says when a session is over and what a restart
-//! owes, `specs/IssuedPrefix.antt` what a subscription was issued, and `specs/Examples.antt` has what computes.
+//! owes, `specs/IssuedPrefix.antt` what a subscription was issued, `specs/Orders.antt` when the numbers of a session are
+//! in order, and `specs/Examples.antt` has what computes. The laws stand in `src/laws.rt`.
 #![tactic(auto)]
 
 mod entry;
+mod laws;
 
 pub use entry::{Entry, Kind, Version};
+pub use laws::{
+    acting_keeps_order, changes_compose, complete_is_the_greatest, identifiers_differ, others_stay,
+};
