@@ -12,7 +12,7 @@ use Rattle.shard_terms.specs.Capacity.{store_size, fits, needs_a_cut, may_drop, 
 use Rattle.shard_terms.specs.SweepOrder.{Run, starting_sweep, next_run, sweep_after, is_issued_by, is_in_order}
 
 -- a message of a publisher, of QoS 1 or 2
-abbrev said : ℕ → ℕ → List ℕ → StoredMessage
+abbrev pub said : ℕ → ℕ → List ℕ → StoredMessage
 said qos id topic =
     record {
       offset = 0;
@@ -27,7 +27,7 @@ said qos id topic =
       payload = codes "hi";
     }
 
-abbrev says : List ℕ → Op
+abbrev pub says : List ℕ → Op
 says topic = Store (said 1 0 topic)
 
 abbrev offsets : List StoredMessage → List ℕ
@@ -147,7 +147,7 @@ in_one_stream = refl
 -- ---- generations
 
 -- a message a generation
-abbrev one_each : Config
+abbrev pub one_each : Config
 one_each = record default_config { messages = 1; retention = 1000 }
 
 abbrev one : ShardList

@@ -15,4 +15,6 @@ pub mod ListLaws
 pub mod OrderLaws
 pub mod GrownLaws
 pub mod GenerationLaws
+pub mod ShardMoves
+pub mod MoveExamples
 pub mod Examples
