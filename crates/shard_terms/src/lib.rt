@@ -9,8 +9,7 @@
 //! Read `specs/ShardList.antt` and `specs/Storing.antt` first, then `specs/LearnedPath.antt` and `specs/Streams.antt`,
 //! `specs/Capacity.antt`, `specs/Wanted.antt` and `specs/SweepOrder.antt`. `specs/Growing.antt` says when one list has
 //! grown from another, `specs/Lists.antt` what a list in order is, and `specs/ShardMoves.antt` what moves a shard makes.
-//! `specs/Examples.antt` and `MoveExamples.antt` have what computes. The laws stand
-//! in `src/laws.rt`.
+//! `specs/Examples.antt` and `specs/MoveExamples.antt` have what computes, and the laws stand in `src/laws.rt`.
 #![tactic(auto)]
 
 mod laws;
