@@ -17,4 +17,6 @@ pub mod GrownLaws
 pub mod GenerationLaws
 pub mod ShardMoves
 pub mod MoveExamples
+pub mod Shards
+pub mod MoveLaws
 pub mod Examples

@@ -1,4 +1,4 @@
-ghost use Rattle.std.specs.Prelude.{◌≡◌, ◌≤◌, ◌<◌, ◌++◌, ◌∷◌, List, ℕ, [], Some, None, map, slice_get};
+ghost use Rattle.std.specs.Prelude.{◌≡◌, ◌≤◌, ◌<◌, ◌++◌, ◌∷◌, Bool, false, List, ℕ, [], Some, None, map, slice_get};
 ghost use Rattle.topic_terms.specs.StoredMessage.{StoredMessage};
 ghost use Rattle.shard_terms.specs.LearnedPath.{Path, Tokens, patterns_of, learned, learned_path, path_from, number_of};
 ghost use Rattle.shard_terms.specs.Streams.{Held, held_generations, streamed, streams_from, topics_of};
@@ -10,6 +10,8 @@ ghost use Rattle.shard_terms.specs.Growing.{HasCut, HasGrown};
 ghost use Rattle.shard_terms.specs.Capacity.{rotated, dropped};
 ghost use Rattle.shard_terms.specs.Lists.{IsList};
 ghost use Rattle.shard_terms.specs.GrownLaws.{HasHeld, Continues};
+ghost use Rattle.shard_terms.specs.ShardMoves.{Shard, ShardMove, Nothing, Show, is_nothing, if_drop, opening_shard, shard_step, shard_run, crashed_shard};
+ghost use Rattle.shard_terms.specs.Shards.{IsShard, is_show};
 
 /// A law: the patterns that are carried along from topic to topic are the distinct paths of the whole list, and give
 /// each later topic the same path.
@@ -110,4 +112,51 @@ pub fn streams_stay()
         IsList list → IsList later → HasGrown list later →
         HasHeld (held_generations profile list) g → (oldest_of later.cuts).number ≤ g.cut.number →
         (other : Held) × HasHeld (held_generations profile later) other × Continues g other }
+{}
+
+/// A law: whatever move a shard makes, what is stored has grown from what was stored, and where no drop pends, the
+/// floor stays, so that no message goes. A list has grown from itself, as where a move isn't allowed.
+pub fn moves_only_add()
+    ensures itself { (list : ShardList) → IsList list → HasGrown list list }
+    ensures grown { (profile : Profile) (config : Config) (s : Shard) (move : ShardMove) →
+        IsList s.stored → HasGrown s.stored (shard_step profile config s move).stored }
+    ensures floor { (profile : Profile) (config : Config) (s : Shard) (move : ShardMove) →
+        IsList s.stored → if_drop s.pending ≡ false →
+        floor_of (shard_step profile config s move).stored ≡ floor_of s.stored }
+{}
+
+/// A law: a shard begins in order, and each move leaves it in order, and so do all the moves after one another, and a
+/// crash, whether what pends goes in or not: what is stored and what is shown are lists in order, and what is stored
+/// has grown from what is shown.
+pub fn moves_keep_order()
+    ensures opening { (config : Config) → IsShard (opening_shard config) }
+    ensures step { (profile : Profile) (config : Config) (s : Shard) (move : ShardMove) →
+        IsShard s → IsShard (shard_step profile config s move) }
+    ensures run { (profile : Profile) (config : Config) (moves : List ShardMove) →
+        IsShard (shard_run profile config (opening_shard config) moves) }
+    ensures crash { (config : Config) (goes_in : Bool) (s : Shard) →
+        IsShard s → IsShard (crashed_shard config goes_in s) }
+{}
+
+/// A law: what pends isn't shown. Show alone changes what is shown: it shows what is stored where nothing pends, and it
+/// leaves the shard as it is while something does.
+pub fn pending_is_not_shown()
+    ensures kept { (profile : Profile) (config : Config) (s : Shard) (move : ShardMove) →
+        is_show move ≡ false → (shard_step profile config s move).shown ≡ s.shown }
+    ensures shown { (profile : Profile) (config : Config) (s : Shard) →
+        s.pending ≡ Nothing → (shard_step profile config s Show).shown ≡ s.stored }
+    ensures waits { (profile : Profile) (config : Config) (s : Shard) →
+        is_nothing s.pending ≡ false → shard_step profile config s Show ≡ s }
+{}
+
+/// A law: behind a crash, whether what pended went in or not, what is stored has grown from what was stored, and is
+/// what is shown; and where no drop pended, the floor stays, so that no message goes.
+pub fn crash_takes_nothing()
+    ensures grown { (config : Config) (goes_in : Bool) (s : Shard) →
+        IsList s.stored → HasGrown s.stored (crashed_shard config goes_in s).stored }
+    ensures floor { (config : Config) (goes_in : Bool) (s : Shard) →
+        IsList s.stored → if_drop s.pending ≡ false →
+        floor_of (crashed_shard config goes_in s).stored ≡ floor_of s.stored }
+    ensures shown { (config : Config) (goes_in : Bool) (s : Shard) →
+        (crashed_shard config goes_in s).shown ≡ (crashed_shard config goes_in s).stored }
 {}
