@@ -1,5 +1,5 @@
 -- What a generation has room for, when a group needs a new one, and when a shard is full.
-use Rattle.std.specs.Prelude.{ℕ, ◌+◌, ◌-◌, ◌^◌, Bool, false, ◌&&◌, ◌||◌, not, nat_le, nat_lt, List, [], ◌∷◌, ◌++◌, length, drop, Option, Some, None}
+use Rattle.std.specs.Prelude.{ℕ, ◌+◌, ◌-◌, ◌^◌, Bool, true, false, ◌&&◌, ◌||◌, not, nat_le, nat_lt, List, [], ◌∷◌, ◌++◌, length, drop, Option, Some, None}
 use Rattle.std.specs.List.{sum_by}
 use Rattle.topic_terms.specs.Profile.{Profile, Config}
 use Rattle.topic_terms.specs.Levels.{text_of_levels}
@@ -27,11 +27,26 @@ store_size m =
 abbrev pub has_stores : List Op → Bool
 has_stores ops = nat_lt 0 (length (stores_of ops))
 
+-- what is learned of the topics of some messages keeps within the streams and the nodes that a generation may have
+abbrev pub learns_within : Profile → Cut → List StoredMessage → Bool
+learns_within profile cut ms =
+    let patterns = patterns_in profile cut ms in
+    nat_le (length patterns) profile.streams && nat_le (length (nodes_of patterns)) profile.nodes
+
+-- so few messages, with so few levels, that it does whatever is learned
+abbrev pub levels_of_all : List StoredMessage → ℕ
+levels_of_all ms = sum_by (λ (m : StoredMessage). 1 + length m.topic) ms
+
+abbrev pub are_few : Profile → List StoredMessage → Bool
+are_few profile ms = nat_le (1 + length ms) profile.streams && nat_le (2 + levels_of_all ms) profile.nodes
+
+-- the same as `learns_within`, without learning anything where the messages are few
+abbrev pub learns_few_or_within : Profile → Cut → List StoredMessage → Bool
+learns_few_or_within profile cut ms = elim (are_few profile ms) as (λ few. Bool) [ true ↦ true | false ↦ learns_within profile cut ms ]
+
 abbrev pub fits_in : Profile → Cut → List StoredMessage → Bool
 fits_in profile cut ms =
-    let patterns = patterns_in profile cut ms in
-    nat_le (length ms) cut.messages && nat_le (sum_by store_size ms) profile.generation_bytes
-    && (nat_le (length patterns) profile.streams && nat_le (length (nodes_of patterns)) profile.nodes)
+    nat_le (length ms) cut.messages && (nat_le (sum_by store_size ms) profile.generation_bytes && learns_few_or_within profile cut ms)
 
 -- whether the newest generation has room for the messages of operations that are kept, by all four limits
 abbrev pub fits : Profile → ShardList → List Op → Bool
@@ -57,19 +72,20 @@ holds_all profile list = nat_le profile.generations (length list.cuts)
 -- ---- the last values
 
 -- the next offset, or the number of a new generation, would pass the greatest number of eight bytes
-abbrev pub passes_the_last : Profile → ShardList → List Op → Bool
-passes_the_last profile list ops =
-    nat_le (2 ^ 64) (next_of list + length (stores_of ops))
-    || (needs_a_cut profile list ops && nat_le (2 ^ 64) ((newest list).number + 1))
+abbrev pub passes_the_last : Bool → ShardList → List Op → Bool
+passes_the_last needs list ops =
+    nat_le (2 ^ 64) (next_of list + length (stores_of ops)) || (needs && nat_le (2 ^ 64) ((newest list).number + 1))
 
 -- ---- a full shard
 
 -- The operations are kept ones. They need a new generation, all that may be held are held, and the oldest may not be dropped yet; or
 -- they would pass the last values.
+abbrev pub is_full_if : Bool → Profile → Config → ShardList → List Op → ℕ → Bool
+is_full_if needs profile config list ops now =
+    (needs && (holds_all profile list && not (may_drop config list now))) || (has_stores ops && passes_the_last needs list ops)
+
 abbrev pub is_full : Profile → Config → ShardList → List Op → ℕ → Bool
-is_full profile config list ops now =
-    (needs_a_cut profile list ops && (holds_all profile list && not (may_drop config list now)))
-    || (has_stores ops && passes_the_last profile list ops)
+is_full profile config list ops now = is_full_if (needs_a_cut profile list ops) profile config list ops now
 
 -- more identifiers would be awaited than may be
 abbrev pub awaits_too_many : Profile → ShardList → List Op → ℕ → Bool

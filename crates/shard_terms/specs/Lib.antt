@@ -7,6 +7,7 @@ pub mod Capacity
 pub mod Wanted
 pub mod SweepOrder
 pub mod PatternLaws
+pub mod CapacityLaws
 pub mod StreamLaws
 pub mod PathLaws
 pub mod NumberLaws
@@ -16,6 +17,8 @@ pub mod OrderLaws
 pub mod GrownLaws
 pub mod GenerationLaws
 pub mod ShardMoves
+pub mod Choices
+pub mod ShardCalls
 pub mod MoveExamples
 pub mod Shards
 pub mod MoveLaws

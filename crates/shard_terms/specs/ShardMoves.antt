@@ -3,7 +3,7 @@ use Rattle.std.specs.Prelude.{ℕ, ◌+◌, ◌^◌, Bool, true, false, ◌&&◌
 use Rattle.topic_terms.specs.Profile.{Profile, Config}
 use Rattle.shard_terms.specs.ShardList.{ShardList, newest, newest_messages, opening_list}
 use Rattle.shard_terms.specs.Storing.{Op, kept_ops, store}
-use Rattle.shard_terms.specs.Capacity.{needs_a_cut, may_drop, holds_all, is_full, awaits_too_many, rotated, dropped}
+use Rattle.shard_terms.specs.Capacity.{needs_a_cut, may_drop, holds_all, is_full_if, awaits_too_many, rotated, dropped}
 
 -- what was begun on the disks and isn't known to be in yet: a group with its moment, a new generation, a drop of the oldest one
 pub data Pending : Type 0 where
@@ -43,10 +43,15 @@ is_nothing ADrop = false
 
 -- A group may be begun where its kept operations fit the newest generation, the shard isn't full, and not too many identifiers would be
 -- awaited.
+abbrev pub may_store_if : Bool → Profile → Config → ShardList → List Op → ℕ → Bool
+may_store_if needs profile config list kept now =
+    not needs && (not (is_full_if needs profile config list kept now) && not (awaits_too_many profile list kept now))
+
+abbrev pub may_store_kept : Profile → Config → ShardList → List Op → ℕ → Bool
+may_store_kept profile config list kept now = may_store_if (needs_a_cut profile list kept) profile config list kept now
+
 abbrev pub may_store : Profile → Config → ShardList → List Op → ℕ → Bool
-may_store profile config list ops now =
-    let kept = kept_ops list ops in
-    not (needs_a_cut profile list kept) && (not (is_full profile config list kept now) && not (awaits_too_many profile list kept now))
+may_store profile config list ops now = may_store_kept profile config list (kept_ops list ops) now
 
 -- A new generation may begin where one more may be held, the newest has a message, since each group fits an empty one, and its number
 -- isn't the last.

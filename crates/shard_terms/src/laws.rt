@@ -7,7 +7,7 @@ ghost use Rattle.topic_terms.specs.Profile.{Config, Profile};
 ghost use Rattle.shard_terms.specs.ShardList.{Cut, ShardList, floor_of, next_of, message_at, newest, oldest_of, opening_list};
 ghost use Rattle.shard_terms.specs.Storing.{Op, store};
 ghost use Rattle.shard_terms.specs.Growing.{HasCut, HasGrown};
-ghost use Rattle.shard_terms.specs.Capacity.{rotated, dropped};
+ghost use Rattle.shard_terms.specs.Capacity.{learns_few_or_within, learns_within, rotated, dropped};
 ghost use Rattle.shard_terms.specs.Lists.{IsList};
 ghost use Rattle.shard_terms.specs.GrownLaws.{HasHeld, Continues};
 ghost use Rattle.shard_terms.specs.ShardMoves.{Shard, ShardMove, Nothing, Show, is_nothing, if_drop, opening_shard, shard_step, shard_run, crashed_shard};
@@ -55,6 +55,13 @@ pub fn a_placed_topic_keeps_its_path()
     ensures { (top below : ℕ) (before : List Tokens) (topic : Tokens) (after : List Tokens) →
         learned_path top below (before ++ topic ∷ after) topic
         ≡ learned_path top below before topic }
+{}
+
+/// A law: what is computed without learning is what learning gives: of few messages with few levels a generation has
+/// streams and nodes enough, whatever it learns.
+pub fn few_messages_fit()
+    ensures { (profile : Profile) (cut : Cut) (ms : List StoredMessage) →
+        learns_few_or_within profile cut ms ≡ learns_within profile cut ms }
 {}
 
 /// A law: a shard's list begins in order; storing a group leaves it in order, and it has grown.

@@ -1,0 +1,17 @@
+pub mod Reasons
+pub mod Delivery
+pub mod PlainConnection
+pub mod Batch
+pub mod Pump
+pub mod MayIssue
+pub mod Resend
+pub mod SessionStep
+pub mod Step
+pub mod PublishStep
+pub mod ConnectStep
+pub mod PacketStep
+pub mod Worker
+pub mod WorkerMoves
+pub mod Draft
+pub mod Pieces
+pub mod Parts

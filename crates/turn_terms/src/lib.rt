@@ -1,0 +1,2 @@
+//! One turn of a worker as definitions.
+#![tactic(auto)]

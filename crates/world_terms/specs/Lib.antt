@@ -1,0 +1,5 @@
+pub mod World
+pub mod Lines
+pub mod Text
+pub mod Running
+pub mod Computing

@@ -1,0 +1,2 @@
+//! The world as definitions.
+#![tactic(auto)]
