@@ -1,5 +1,5 @@
 -- Which shard and which worker a client identifier belongs to.
-use Rattle.std.specs.Prelude.{ℕ, ◌+◌, ◌*◌, ◌-◌, ◌%◌, Bool, ◌&&◌, ◌||◌, not, ◌==◌, nat_lt, if◌then◌else◌, List, [], ◌++◌, length, take, drop, slice_index, codes, Option, Some, None}
+use Rattle.std.specs.Prelude.{ℕ, ◌+◌, ◌*◌, ◌-◌, ◌%◌, Bool, true, false, ◌&&◌, ◌||◌, not, ◌==◌, nat_lt, if◌then◌else◌, List, [], ◌++◌, length, take, drop, slice_index, codes, Option, Some, None}
 use Rattle.std.specs.List.{list_all}
 use Rattle.std.specs.Int.{w64, from_be_bytes}
 use Rattle.std.specs.Char.{is_ascii_digit}
@@ -8,12 +8,19 @@ use Rattle.std.specs.Fmt.{decimal}
 use Rattle.sha2.specs.Sha256.{sha256}
 
 -- bytes 0 to 7 of the SHA-256 of the identifier, the highest first, modulo the number of shards
-abbrev pub shard_of : List ℕ → ℕ → ℕ
-shard_of client shards = from_be_bytes w64 (take 8 (sha256 client)) % shards
+abbrev pub hashed_shard : List ℕ → ℕ → ℕ
+hashed_shard client shards = from_be_bytes w64 (take 8 (sha256 client)) % shards
 
 -- bytes 8 to 15, modulo the number of workers
+abbrev pub hashed_worker : List ℕ → ℕ → ℕ
+hashed_worker client workers = from_be_bytes w64 (take 8 (drop 8 (sha256 client))) % workers
+
+-- the same, computed without the hash where there is one shard, or one worker
+abbrev pub shard_of : List ℕ → ℕ → ℕ
+shard_of client shards = elim (shards == 1) as (λ one. ℕ) [ true ↦ 0 | false ↦ hashed_shard client shards ]
+
 abbrev pub worker_of : List ℕ → ℕ → ℕ
-worker_of client workers = from_be_bytes w64 (take 8 (drop 8 (sha256 client))) % workers
+worker_of client workers = elim (workers == 1) as (λ one. ℕ) [ true ↦ 0 | false ↦ hashed_worker client workers ]
 
 -- ---- identifiers that a worker assigned: `auto-DD-N`
 

@@ -10,6 +10,8 @@
 //! limits, and what of the broker is built; `specs/Examples.antt` what computes.
 #![tactic(auto)]
 
+mod laws;
 mod refused;
 
+pub use laws::clients_go_by_their_hash;
 pub use refused::{FilterRefused, TopicRefused};

@@ -151,6 +151,12 @@ thirty_devices_crash : text_of_script whole (lines (devices 30 ++ codes "look" �
 unfolding running
 thirty_devices_crash = refl
 
+-- two hundred devices leave eleven streams, the last one of 190 messages
+two_hundred_devices : text_of_script whole (lines (devices 200 ++ codes "look" ∷ [])) []
+    ≡ lines (devices_text 200 ++ devices_shard 200 ++ devices_worker 200)
+unfolding running
+two_hundred_devices = refl
+
 -- ---- generations
 
 -- a message a generation, kept for a second
