@@ -23,3 +23,4 @@ pub mod MoveExamples
 pub mod Shards
 pub mod MoveLaws
 pub mod Examples
+pub mod AllowedMoves

@@ -12,9 +12,11 @@
 //! `specs/Examples.antt` and `specs/MoveExamples.antt` have what computes, and the laws stand in `src/laws.rt`.
 #![tactic(auto)]
 
+mod allowed;
 mod laws;
 mod sweep;
 
+pub use allowed::only_allowed_moves_move;
 pub use laws::{
     a_placed_topic_keeps_its_path, a_stream_is_a_number, crash_takes_nothing, dropping_grows,
     few_messages_fit, growing_goes_on, moves_keep_order, moves_only_add, order_means, patterns_are_carried,

@@ -15,3 +15,6 @@ pub mod WorkerMoves
 pub mod Draft
 pub mod Pieces
 pub mod Parts
+pub mod Allowed
+pub mod StepLaws
+pub mod AllowedLaws

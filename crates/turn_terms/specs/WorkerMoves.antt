@@ -200,8 +200,8 @@ record_of s w OfTick = tick_record s w (ended_changes s.now s.sessions)
 record_of s w OfOwed = owed_record s.profile w w.owed
 
 abbrev pub begun_unless : Option Pending → Option Pending → Worker → Worker
-begun_unless (Some p) asked w = w
-begun_unless None asked w = record w { pending = asked }
+begun_unless None (Some p) w = record w { pending = Some p }
+begun_unless pending asked w = w
 
 -- ---- a record that is in
 

@@ -3,3 +3,5 @@ pub mod Lines
 pub mod Text
 pub mod Running
 pub mod Computing
+pub mod Allowed
+pub mod AllowedLaws
