@@ -23,7 +23,6 @@ levels paths = sum_by size paths
 abbrev topic_size : StoredMessage → ℕ
 topic_size m = 1 + length m.topic
 
-
 -- a path is as long as its topic
 path_length : (top below : ℕ) (paths : List Path) (node : Path) (topic : Tokens) → length (path_from top below paths node topic) ≡ length topic
 path_length top below paths node [] = refl

@@ -19,7 +19,8 @@ mod sweep;
 pub use allowed::only_allowed_moves_move;
 pub use laws::{
     a_placed_topic_keeps_its_path, a_stream_is_a_number, crash_takes_nothing, dropping_grows,
-    few_messages_fit, growing_goes_on, moves_keep_order, moves_only_add, order_means, patterns_are_carried,
-    pending_is_not_shown, rotating_grows, storing_grows, streams_are_patterns, streams_stay,
+    few_messages_fit, growing_goes_on, moves_keep_order, moves_only_add, order_means,
+    patterns_are_carried, pending_is_not_shown, rotating_grows, storing_grows,
+    streams_are_patterns, streams_stay,
 };
 pub use sweep::Sweep;

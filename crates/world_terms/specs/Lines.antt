@@ -136,8 +136,8 @@ abbrev pub script_from : ℕ → Reading → List (List ℕ) → Script
 script_from number r [] = no_lines r None
 script_from number r (text ∷ texts) =
     elim (line_of r.config r.begun text) as (λ line. Script) [
-      None ↦ no_lines r (Some number)
-    | Some line ↦ in_front line (script_from (number + 1) (read_on line r) texts)
+      | None ↦ no_lines r (Some number)
+      | Some line ↦ in_front line (script_from (number + 1) (read_on line r) texts)
     ]
 
 -- The texts of the lines are what stands between line feeds; the last line may lack its own.
