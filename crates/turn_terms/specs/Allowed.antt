@@ -1,9 +1,9 @@
 -- Which moves of a worker are allowed.
-use Rattle.std.specs.Prelude.{ℕ, Bool, true, false, ◌&&◌, Option, Some, None, find, is_some, is_none}
+use Rattle.std.specs.Prelude.{Bool, true, false, ◌&&◌, Option, Some, None, find, is_some, is_none}
 use Rattle.topic_terms.specs.Profile.{Profile, Config}
-use Rattle.session_terms.specs.PlainSession.{PlainSession, session_of}
+use Rattle.session_terms.specs.PlainSession.{session_of}
 use Rattle.turn_terms.specs.PlainConnection.{PlainConnection, connection_of}
-use Rattle.turn_terms.specs.Worker.{Worker, Item, Answer, Answers, Accepts, Delivers, sessions_of, setting_of, connection_in, session_in}
+use Rattle.turn_terms.specs.Worker.{Worker, Item, Answer, Accepts, sessions_of, setting_of, connection_in, session_in}
 use Rattle.turn_terms.specs.WorkerMoves.{WorkerMove, View, BeginCommit, Commit, Settle, Stored, Emit, OfItem, OfPacket, OfResend, Bind, TakeOver, Unbind, record_of, has_asked, item_at, answered_step, resent_for, accepts_on, may_take_over}
 
 -- a client that isn't bound, whose session is there

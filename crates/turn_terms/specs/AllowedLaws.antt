@@ -1,5 +1,5 @@
 -- A move of a worker that isn't allowed changes nothing and puts out nothing.
-use Rattle.std.proofs.Common.{◌≡◌, ℕ, Bool, true, false, ◌&&◌, List, [], Option, Some, None, find, is_some, is_none, refl, sym, ap, ◌∙◌}
+use Rattle.std.proofs.Common.{◌≡◌, ℕ, Bool, true, false, ◌&&◌, List, [], Option, Some, None, find, is_some, is_none, refl}
 use Rattle.topic_terms.specs.Profile.{Profile, Config}
 use Rattle.topic_terms.specs.StoredMessage.{StoredMessage}
 use Rattle.session_terms.specs.PlainSession.{PlainSession, session_of}
@@ -7,7 +7,7 @@ use Rattle.mqtt_packet.specs.Packet.{ConnectFields}
 use Rattle.turn_terms.specs.PlainConnection.{PlainConnection, connection_of}
 use Rattle.turn_terms.specs.Resend.{Resent}
 use Rattle.turn_terms.specs.Step.{Step}
-use Rattle.turn_terms.specs.Worker.{Worker, Item, Answer, Answers, Accepts, Delivers, Pending, Out, sessions_of, setting_of, connection_in, session_in}
+use Rattle.turn_terms.specs.Worker.{Worker, Item, Answer, Answers, Accepts, Delivers, Pending, sessions_of, setting_of, connection_in, session_in}
 use Rattle.turn_terms.specs.WorkerMoves.{WorkerMove, Asked, Ending, View, BeginCommit, Commit, Settle, Stored, Emit, OfItem, OfPacket, OfResend, Bind, TakeOver, Unbind, record_of, begun_unless, committed_by, settled_by, has_asked, stored_if, item_at, emitted_if, answered_step, step_emitted, resent_for, resend_emitted, accepts_on, bound_with, bound_answer, bound_if, may_take_over, taken_over_if, unbound, worker_step, worker_outs, worker_acks, emitted_outs, step_outs, resend_outs, takeover_outs, ending_outs, emitted_acks, step_acks}
 use Rattle.turn_terms.specs.Allowed.{may_bind_answer, may_bind, worker_allows}
 

@@ -1,5 +1,5 @@
 -- The messages of a run as they are issued: a batch.
-use Rattle.std.specs.Prelude.{ℕ, ◌+◌, min, Bool, ◌&&◌, ◌||◌, ◌==◌, not, nat_le, if◌then◌else◌, List, [], ◌∷◌, length, map, Option, Some, None}
+use Rattle.std.specs.Prelude.{ℕ, ◌+◌, min, Bool, ◌&&◌, ◌||◌, ◌==◌, not, nat_le, if◌then◌else◌, List, [], ◌∷◌}
 use Rattle.topic_terms.specs.Profile.{Profile}
 use Rattle.topic_terms.specs.StoredMessage.{StoredMessage}
 use Rattle.session_terms.specs.declared.entry.Entry.{Entry}

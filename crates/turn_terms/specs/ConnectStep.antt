@@ -1,5 +1,5 @@
 -- CONNECT (MQTT 3.1): which session it begins or resumes, why it is refused, and what CONNACK says (MQTT 3.2).
-use Rattle.std.specs.Prelude.{ℕ, zero, suc, ◌+◌, ◌*◌, Bool, true, false, ◌&&◌, ◌||◌, not, ◌==◌, nat_le, nat_lt, if◌then◌else◌, List, [], ◌∷◌, ◌++◌, length, filter, Option, Some, None, is_some}
+use Rattle.std.specs.Prelude.{ℕ, zero, suc, ◌+◌, Bool, true, false, ◌&&◌, ◌||◌, not, ◌==◌, nat_le, nat_lt, if◌then◌else◌, List, [], ◌∷◌, ◌++◌, length, Option, Some, None, is_some}
 use Rattle.topic_terms.specs.Profile.{Profile}
 use Rattle.topic_terms.specs.Routing.{assigned}
 use Rattle.session_terms.specs.PlainSession.{PlainSession, Sessions, session_of}

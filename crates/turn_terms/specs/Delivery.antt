@@ -1,7 +1,6 @@
 -- How a stored message goes out to a subscription, and how many bytes that takes.
 use Rattle.std.specs.Prelude.{ℕ, ◌+◌, ◌-◌, ◌/◌, ◌%◌, min, Bool, true, false, ◌&&◌, ◌||◌, ◌==◌, nat_le, nat_lt, if◌then◌else◌, List, [], ◌∷◌, ◌++◌, length, Option, Some, None, Result, Ok, Err}
 use Rattle.std.specs.Str.{bytes_eq}
-use Rattle.topic_terms.specs.Profile.{Profile}
 use Rattle.topic_terms.specs.Levels.{text_of_levels}
 use Rattle.topic_terms.specs.StoredMessage.{StoredMessage}
 use Rattle.session_terms.specs.declared.entry.Kind.{Kind}

@@ -1,18 +1,18 @@
 -- A part of a turn as it grows: what one call of a worker does, move by move.
-use Rattle.std.specs.Prelude.{ℕ, ◌+◌, Bool, true, false, ◌&&◌, ◌||◌, not, ◌==◌, nat_lt, if◌then◌else◌, List, [], ◌∷◌, ◌++◌, length, map, filter, find, Option, Some, None, is_some}
+use Rattle.std.specs.Prelude.{ℕ, ◌+◌, Bool, true, false, ◌&&◌, not, ◌==◌, nat_lt, if◌then◌else◌, List, [], ◌∷◌, ◌++◌, length, filter, find, Option, Some, None, is_some}
 use Rattle.topic_terms.specs.Profile.{Profile, Config}
 use Rattle.shard_terms.specs.ShardList.{ShardList}
 use Rattle.shard_terms.specs.Storing.{Op}
 use Rattle.shard_terms.specs.Choices.{Fates, Drawn, draw}
-use Rattle.session_terms.specs.Change.{Change, Issues}
+use Rattle.session_terms.specs.Change.{Change}
 use Rattle.mqtt_frame.specs.declared.refused.BadHeader.{BadHeader}
-use Rattle.mqtt_frame.specs.PlainFramer.{PlainFramer, opening}
+use Rattle.mqtt_frame.specs.PlainFramer.{PlainFramer}
 use Rattle.mqtt_packet.specs.Packet.{PlainPacket, PublishFields}
 use Rattle.turn_terms.specs.PlainConnection.{PlainConnection, connection_of}
-use Rattle.turn_terms.specs.Step.{Setting, Outcome, Close, Ask, is_nothing}
+use Rattle.turn_terms.specs.Step.{Setting, is_nothing}
 use Rattle.turn_terms.specs.ConnectStep.{refusing}
 use Rattle.turn_terms.specs.Worker.{Worker, Item, Answer, Answers, Accepts, Delivers, Pending, Out, Sent, Closed, setting_of, connection_in, are_sendable}
-use Rattle.turn_terms.specs.WorkerMoves.{WorkerMove, View, BeginCommit, Commit, Settle, Emit, OfItem, TakeOver, Unbind, Cause, OfPackets, OfConnect, OfPump, OfTick, OfOwed, Ending, with_reason, silently, worker_step, worker_outs, record_of, item_at}
+use Rattle.turn_terms.specs.WorkerMoves.{WorkerMove, View, BeginCommit, Commit, Emit, OfItem, Unbind, Cause, OfPackets, OfConnect, OfPump, OfTick, OfOwed, Ending, with_reason, silently, worker_step, worker_outs, item_at}
 use Rattle.turn_terms.specs.Reasons as Reason
 
 -- ---- what stands beside a worker

@@ -18,3 +18,6 @@ pub mod Parts
 pub mod Allowed
 pub mod StepLaws
 pub mod AllowedLaws
+pub mod DeliveryLaws
+pub mod RisingLaws
+pub mod MayIssueLaws

@@ -1,10 +1,10 @@
 -- Whether a session may be issued a batch of a subscription in a shard: a relation that names no stream, and the test that computes it.
-use Rattle.std.specs.Prelude.{ℕ, ◌≡◌, ◌≤◌, ◌<◌, ◌⊎◌, Bool, true, false, ◌&&◌, ◌||◌, not, ◌==◌, nat_le, nat_lt, List, [], ◌∷◌, length, map, filter, slice_get, take, find, Option, Some, None}
+use Rattle.std.specs.Prelude.{ℕ, ◌≡◌, ◌≤◌, ◌<◌, ◌⊎◌, Bool, true, false, ◌&&◌, ◌||◌, not, ◌==◌, nat_le, nat_lt, List, [], ◌∷◌, length, filter, slice_get, find, Option, Some, None}
 use Rattle.std.specs.List.{list_any, list_all}
 use Rattle.topic_terms.specs.Profile.{Profile}
 use Rattle.topic_terms.specs.StoredMessage.{StoredMessage}
 use Rattle.shard_terms.specs.ShardList.{ShardList}
-use Rattle.shard_terms.specs.Wanted.{wanted, is_wanted, same_topic}
+use Rattle.shard_terms.specs.Wanted.{wanted, same_topic}
 use Rattle.shard_terms.specs.SweepOrder.{is_in_order}
 use Rattle.session_terms.specs.declared.entry.Entry.{Entry}
 use Rattle.session_terms.specs.declared.entry.Kind.{Kind}

@@ -1,23 +1,21 @@
 -- What a packet of a bound connection does, with a case for each kind; the end of a connection; and a Tick.
-use Rattle.std.specs.Prelude.{ℕ, ◌+◌, ◌-◌, ◌*◌, Bool, true, false, ◌&&◌, not, ◌==◌, nat_lt, nat_le, if◌then◌else◌, List, [], ◌∷◌, ◌++◌, length, map, filter, Option, Some, None}
-use Rattle.topic_terms.specs.Profile.{Profile}
+use Rattle.std.specs.Prelude.{ℕ, ◌+◌, ◌*◌, Bool, true, false, ◌&&◌, ◌==◌, nat_lt, if◌then◌else◌, List, [], ◌∷◌, map, filter, Option, Some, None}
 use Rattle.shard_terms.specs.declared.sweep.Sweep.{Sweep}
 use Rattle.shard_terms.specs.ShardList.{ShardList}
 use Rattle.shard_terms.specs.SweepOrder.{starting_sweep}
 use Rattle.session_terms.specs.PlainSession.{PlainSession, Sessions}
-use Rattle.session_terms.specs.Change.{Change, Effect, Began, Ended, Bound, Parted, Subscribed, Replaced, Unsubscribed, Issued, Acked, Received, Done, Passed, change}
+use Rattle.session_terms.specs.Change.{Change, Effect, Ended, Acked, Done, change}
 use Rattle.session_terms.specs.Ends.{is_over, part_changes}
 use Rattle.mqtt_props.specs.declared.table.TheConstants.{SESSION_EXPIRY_INTERVAL}
-use Rattle.mqtt_props.specs.declared.prop.Prop.{Prop}
 use Rattle.mqtt_props.specs.Lookup.{first_of, four_in, var_in, or_default}
 use Rattle.mqtt_packet.specs.declared.packet.AckKind.{AckKind}
 use Rattle.mqtt_packet.specs.declared.packet.AckKind.TheVariants.{Puback, Pubrec, Pubrel, Pubcomp}
 use Rattle.mqtt_packet.specs.Packet.{PlainPacket, Connect, Connack, Publish, Ack, Subscribe, Suback, Unsubscribe, Unsuback, Pingreq, Pingresp, Disconnect, Auth, AckFields, SubscribeFields, UnsubscribeFields, EndFields}
-use Rattle.turn_terms.specs.PlainConnection.{PlainConnection, Effects, no_effects}
+use Rattle.turn_terms.specs.PlainConnection.{PlainConnection, no_effects}
 use Rattle.turn_terms.specs.Resend.{passed1, passed2}
 use Rattle.turn_terms.specs.SessionStep as Session
 use Rattle.turn_terms.specs.SessionStep.{Planned, session_step}
-use Rattle.turn_terms.specs.Step.{Setting, Outcome, Reply, reply, replies, Step, idle, replying, closing, closing_silently, breaking}
+use Rattle.turn_terms.specs.Step.{Setting, Outcome, reply, replies, Step, idle, replying, closing, closing_silently, breaking}
 use Rattle.turn_terms.specs.PublishStep.{publish_step, pubrel_step}
 use Rattle.turn_terms.specs.Reasons as Reason
 

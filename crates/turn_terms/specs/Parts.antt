@@ -1,5 +1,5 @@
 -- Parts of a turn: what one call of a worker does, at an arrival and behind what it asked for.
-use Rattle.std.specs.Prelude.{ℕ, zero, suc, ◌+◌, ◌-◌, max, Bool, true, false, ◌&&◌, ◌||◌, not, ◌==◌, ◌%◌, nat_lt, nat_le, if◌then◌else◌, List, [], ◌∷◌, ◌++◌, length, map, filter, slice_get, Option, Some, None, is_some}
+use Rattle.std.specs.Prelude.{ℕ, zero, suc, ◌+◌, max, Bool, true, false, ◌&&◌, not, ◌==◌, ◌%◌, nat_lt, if◌then◌else◌, List, [], ◌∷◌, ◌++◌, length, map, filter, slice_get, Option, Some, None}
 use Rattle.std.specs.List.{list_any}
 use Rattle.topic_terms.specs.Profile.{Profile, Config}
 use Rattle.shard_terms.specs.ShardList.{ShardList, newest}
@@ -7,20 +7,20 @@ use Rattle.shard_terms.specs.SweepOrder.{counted_from}
 use Rattle.shard_terms.specs.Choices.{Fates, Drawn, draw}
 use Rattle.session_terms.specs.declared.entry.Entry.{Entry}
 use Rattle.session_terms.specs.declared.entry.Kind.{Kind}
-use Rattle.session_terms.specs.declared.entry.Kind.TheVariants.{Track1, Track2, Zero, Silent}
+use Rattle.session_terms.specs.declared.entry.Kind.TheVariants.{Silent}
 use Rattle.session_terms.specs.PlainSession.{PlainSession}
-use Rattle.session_terms.specs.Change.{Change, Issues}
+use Rattle.session_terms.specs.Change.{Issues}
 use Rattle.session_terms.specs.Ends.{moment_of}
 use Rattle.mqtt_frame.specs.PlainFramer.{opening}
-use Rattle.mqtt_packet.specs.Packet.{PlainPacket, Publish, PublishFields}
+use Rattle.mqtt_packet.specs.Packet.{Publish, PublishFields}
 use Rattle.turn_terms.specs.PlainConnection.{PlainConnection, rest_of}
 use Rattle.turn_terms.specs.Pump.{pump_of}
 use Rattle.turn_terms.specs.Resend.{Resent, resent, Again, Publishes, again, pass_changes, issued_packets}
-use Rattle.turn_terms.specs.Step.{Setting, Outcome, Kept, IsFull, AwaitsTooMany, Faulted, is_nothing}
+use Rattle.turn_terms.specs.Step.{Outcome, Kept, IsFull, AwaitsTooMany, Faulted, is_nothing}
 use Rattle.turn_terms.specs.PacketStep.{ended_changes, overdue}
-use Rattle.turn_terms.specs.Worker.{Worker, Pending, Out, Closed, connection_in, session_in, sessions_of}
-use Rattle.turn_terms.specs.WorkerMoves.{Emit, OfItem, OfResend, OfPump, OfTick, Settle, Unbind, by_client, with_reason, issued_change}
-use Rattle.turn_terms.specs.Draft.{Draft, Part, Beside, Reading, Todo, Status, Going, Waiting, Ended, Failed, Token, Arrival, Opened, Bytes, ClosedByClient, Pump, Tick, Request, ForBodies, ForDrop, After, AfterPublishes, AfterRelease, AfterBodies, AfterDrop, Report, no_report, fresh_draft, part_of, is_going, reading_at, push, views_pushed, not_open, ended_with, own_bound_closed, own_unbound_closed, commit, committed, answered}
+use Rattle.turn_terms.specs.Worker.{Worker, Pending, Closed, connection_in, session_in, sessions_of}
+use Rattle.turn_terms.specs.WorkerMoves.{Emit, OfResend, OfPump, OfTick, Settle, by_client, with_reason}
+use Rattle.turn_terms.specs.Draft.{Draft, Part, Beside, Todo, Waiting, Failed, Token, Arrival, Opened, Bytes, ClosedByClient, Pump, Tick, ForBodies, ForDrop, After, AfterPublishes, AfterRelease, AfterBodies, AfterDrop, no_report, fresh_draft, part_of, is_going, reading_at, push, views_pushed, not_open, ended_with, own_bound_closed, own_unbound_closed, commit, committed, answered}
 use Rattle.turn_terms.specs.Pieces.{piece_taken, tokens_taken, told, asked}
 use Rattle.turn_terms.specs.Reasons as Reason
 

@@ -1,5 +1,5 @@
 -- The packets of a piece, one after another: consecutive publishes are joined in a group, consecutive acknowledgements in a record.
-use Rattle.std.specs.Prelude.{ℕ, ◌+◌, ◌/◌, Bool, true, false, ◌&&◌, ◌||◌, not, ◌==◌, nat_lt, if◌then◌else◌, List, [], ◌∷◌, ◌++◌, length, map, Option, Some, None, is_some, Result, Ok, Err}
+use Rattle.std.specs.Prelude.{ℕ, ◌+◌, ◌/◌, Bool, true, false, ◌&&◌, ◌||◌, not, ◌==◌, nat_lt, if◌then◌else◌, List, [], ◌∷◌, ◌++◌, length, map, Option, Some, None, Result, Ok, Err}
 use Rattle.topic_terms.specs.Profile.{Profile, Config}
 use Rattle.session_terms.specs.PlainSession.{PlainSession}
 use Rattle.mqtt_frame.specs.declared.refused.BadHeader.{BadHeader}
@@ -9,16 +9,16 @@ use Rattle.mqtt_packet.specs.declared.packet.AckKind.{AckKind}
 use Rattle.mqtt_packet.specs.declared.packet.AckKind.TheVariants.{Puback, Pubrec, Pubrel, Pubcomp}
 use Rattle.mqtt_packet.specs.declared.refused.ReadRefused.{ReadRefused}
 use Rattle.mqtt_packet.specs.declared.refused.ReadRefused.TheVariants.{Version, Malformed, Protocol, Memory}
-use Rattle.mqtt_packet.specs.Packet.{PlainPacket, Connect, Publish, Ack, Disconnect, PublishFields, ConnectFields, EndFields}
+use Rattle.mqtt_packet.specs.Packet.{PlainPacket, Connect, Publish, Ack, Disconnect, PublishFields, ConnectFields}
 use Rattle.mqtt_packet.specs.Answer.{answer}
 use Rattle.turn_terms.specs.PlainConnection.{PlainConnection}
-use Rattle.turn_terms.specs.Step.{Setting, Outcome, Reply, Close, Ask, Step, is_nothing, owes_nothing}
-use Rattle.turn_terms.specs.PublishStep.{PublishCase, publish_case, is_asking, publish_group, joins}
+use Rattle.turn_terms.specs.Step.{Outcome, Close, Ask, Step, is_nothing}
+use Rattle.turn_terms.specs.PublishStep.{publish_case, is_asking, publish_group, joins}
 use Rattle.turn_terms.specs.ConnectStep.{connect_refusal, connect_step}
 use Rattle.turn_terms.specs.PacketStep.{packet_step, interval_of}
 use Rattle.turn_terms.specs.Worker.{connection_in, session_in, are_sendable}
-use Rattle.turn_terms.specs.WorkerMoves.{Emit, OfPacket, OfPackets, OfConnect, Bind, TakeOver, Cause, Ending, with_reason, silently, Stepped, not_stepped, stepped_all, stepped_by}
-use Rattle.turn_terms.specs.Draft.{Draft, Status, Going, Waiting, Ended, Failed, Token, Whole, BadFront, EndOfPiece, Reading, Request, ForGroup, After, AfterPublishes, AfterRelease, is_going, reading_at, with_framer, push, setting_in, not_open, own_bound_closed, own_unbound_closed, connect_refused, committed, long_closed, answered}
+use Rattle.turn_terms.specs.WorkerMoves.{Emit, OfPacket, OfPackets, OfConnect, Bind, TakeOver, Ending, with_reason, silently, Stepped, not_stepped, stepped_all}
+use Rattle.turn_terms.specs.Draft.{Draft, Status, Going, Waiting, Ended, Failed, Token, Whole, BadFront, EndOfPiece, Reading, ForGroup, After, AfterPublishes, AfterRelease, is_going, with_framer, push, setting_in, not_open, own_bound_closed, own_unbound_closed, connect_refused, committed, long_closed, answered}
 use Rattle.turn_terms.specs.Reasons as Reason
 
 -- ---- what a packet is read as

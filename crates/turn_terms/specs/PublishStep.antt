@@ -1,6 +1,6 @@
 -- PUBLISH and PUBREL (MQTT 3.3, 3.6): what a publish is answered without a shard, the group that several ask for, and how its outcome
 -- is answered.
-use Rattle.std.specs.Prelude.{ℕ, ◌+◌, Bool, true, false, ◌&&◌, ◌||◌, not, ◌==◌, nat_le, nat_lt, if◌then◌else◌, List, [], ◌∷◌, ◌++◌, length, map, filter, take, min, slice_get, Option, Some, None, is_some}
+use Rattle.std.specs.Prelude.{ℕ, Bool, true, false, ◌&&◌, ◌||◌, not, ◌==◌, nat_le, nat_lt, if◌then◌else◌, List, [], ◌∷◌, ◌++◌, length, map, filter, take, min, slice_get, Option, Some, None, is_some}
 use Rattle.std.specs.List.{list_any, sum_by}
 use Rattle.std.specs.Str.{bytes_eq}
 use Rattle.topic_terms.specs.Profile.{Profile}
@@ -14,13 +14,12 @@ use Rattle.shard_terms.specs.Storing.{Op, Store, Release, Forget, awaits, acts, 
 use Rattle.shard_terms.specs.Capacity.{store_size}
 use Rattle.session_terms.specs.PlainSession.{PlainSession, Sessions}
 use Rattle.mqtt_props.specs.declared.table.TheConstants.{MESSAGE_EXPIRY_INTERVAL, TOPIC_ALIAS}
-use Rattle.mqtt_props.specs.declared.prop.Prop.{Prop}
 use Rattle.mqtt_props.specs.Lookup.{first_of, two_in, four_in, var_in, forwarded}
 use Rattle.mqtt_props.specs.Props.{spelled_bare}
 use Rattle.mqtt_packet.specs.declared.packet.AckKind.TheVariants.{Puback, Pubrec, Pubcomp}
 use Rattle.mqtt_packet.specs.Packet.{PlainPacket, PublishFields, ack}
 use Rattle.turn_terms.specs.PlainConnection.{PlainConnection, Effects, no_effects, holds}
-use Rattle.turn_terms.specs.Step.{Setting, Ask, Outcome, Kept, IsFull, AwaitsTooMany, Faulted, Reply, reply, Step, asking, replying, closing, breaking}
+use Rattle.turn_terms.specs.Step.{Setting, Ask, Outcome, Kept, IsFull, AwaitsTooMany, Faulted, Reply, reply, Step, asking, replying, closing}
 use Rattle.turn_terms.specs.Reasons as Reason
 
 -- ---- the shard of a client, as its worker has seen it

@@ -1,5 +1,5 @@
 -- What one pump of a connection issues.
-use Rattle.std.specs.Prelude.{ℕ, ◌+◌, Bool, true, false, ◌&&◌, ◌||◌, not, ◌==◌, nat_lt, if◌then◌else◌, List, [], ◌∷◌, ◌++◌, length, filter, take, slice_get, Option, Some, None}
+use Rattle.std.specs.Prelude.{ℕ, ◌+◌, Bool, ◌&&◌, ◌||◌, not, ◌==◌, nat_lt, if◌then◌else◌, List, [], ◌∷◌, ◌++◌, filter, slice_get, Option, Some, None}
 use Rattle.std.specs.List.{flat_map}
 use Rattle.topic_terms.specs.Profile.{Profile}
 use Rattle.topic_terms.specs.StoredMessage.{StoredMessage}

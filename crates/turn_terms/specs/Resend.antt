@@ -1,12 +1,12 @@
 -- What is sent again on a connection (MQTT 4.4), and what is passed over.
-use Rattle.std.specs.Prelude.{ℕ, zero, suc, ◌+◌, ◌-◌, Bool, true, false, ◌&&◌, not, ◌==◌, nat_lt, nat_le, if◌then◌else◌, List, [], ◌∷◌, ◌++◌, length, filter, slice_get, Option, Some, None}
+use Rattle.std.specs.Prelude.{ℕ, zero, suc, ◌+◌, ◌-◌, Bool, true, false, ◌&&◌, not, ◌==◌, nat_lt, if◌then◌else◌, List, [], ◌∷◌, ◌++◌, length, filter, slice_get, Option, Some, None}
 use Rattle.std.specs.List.{list_any}
 use Rattle.topic_terms.specs.Profile.{Profile}
 use Rattle.topic_terms.specs.StoredMessage.{StoredMessage}
 use Rattle.shard_terms.specs.ShardList.{ShardList, floor_of, message_at}
 use Rattle.session_terms.specs.declared.entry.Entry.{Entry}
 use Rattle.session_terms.specs.declared.entry.Kind.{Kind}
-use Rattle.session_terms.specs.declared.entry.Kind.TheVariants.{Track1, Track2, Zero, Silent}
+use Rattle.session_terms.specs.declared.entry.Kind.TheVariants.{Track2, Silent}
 use Rattle.session_terms.specs.declared.entry.Version.{Version}
 use Rattle.session_terms.specs.Entry.{id2, numbers1, numbers2}
 use Rattle.session_terms.specs.PlainSession.{PlainSession, version_numbered}

@@ -1,10 +1,10 @@
 -- What a packet asks for, changes and is answered, given the outcomes of what it asked for: the shape of a step.
-use Rattle.std.specs.Prelude.{ℕ, Bool, true, false, ◌&&◌, List, [], ◌∷◌, ◌++◌, Option, Some, None}
+use Rattle.std.specs.Prelude.{ℕ, Bool, true, false, ◌&&◌, List, [], ◌∷◌, Option, Some, None}
 use Rattle.topic_terms.specs.Profile.{Profile, Config}
 use Rattle.topic_terms.specs.StoredMessage.{StoredMessage}
 use Rattle.shard_terms.specs.ShardList.{ShardList}
 use Rattle.shard_terms.specs.Storing.{Op}
-use Rattle.session_terms.specs.PlainSession.{PlainSession, Sessions}
+use Rattle.session_terms.specs.PlainSession.{Sessions}
 use Rattle.session_terms.specs.Change.{Change}
 use Rattle.mqtt_packet.specs.Packet.{PlainPacket}
 use Rattle.turn_terms.specs.PlainConnection.{PlainConnection, Effects, no_effects}

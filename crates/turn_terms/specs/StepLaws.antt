@@ -1,12 +1,12 @@
 -- A packet's step changes the session of its own client alone.
-use Rattle.std.proofs.Common.{◌≡◌, ℕ, ◌+◌, Bool, true, false, List, [], ◌∷◌, ◌++◌, Option, Some, None, is_some, nat_le, if◌then◌else◌, refl, sym, ap, subst, ◌∙◌}
+use Rattle.std.proofs.Common.{◌≡◌, ℕ, ◌+◌, Bool, true, false, List, [], ◌∷◌, ◌++◌, Option, Some, None, is_some, nat_le, if◌then◌else◌, refl, ap, ◌∙◌}
 use Rattle.std.specs.Str.{bytes_eq}
 use Rattle.topic_terms.specs.Profile.{Profile}
 use Rattle.topic_terms.specs.Texts.{filter_refusal}
 use Rattle.mqtt_props.specs.Lookup.{first_of, var_in, or_default}
 use Rattle.session_terms.specs.PlainSession.{PlainSession, Subscription, Sessions, session_of}
-use Rattle.session_terms.specs.Change.{Change, Effect, Subscribed, Replaced, Unsubscribed, Acked, Received, Done, change}
-use Rattle.session_terms.specs.Acting.{act, act_all, changed_session}
+use Rattle.session_terms.specs.Change.{Change, Effect, Unsubscribed, Acked, Received, Done, change}
+use Rattle.session_terms.specs.Acting.{act, act_all}
 use Rattle.session_terms.specs.OtherLaws.{keeps_client, other_stays}
 use Rattle.mqtt_packet.specs.declared.packet.Wish.{Wish}
 use Rattle.mqtt_packet.specs.declared.packet.AckKind.{AckKind}
@@ -18,9 +18,9 @@ use Rattle.turn_terms.specs.SessionStep as Session
 use Rattle.turn_terms.specs.Reasons as Reason
 use Rattle.turn_terms.specs.Delivery.{qos_of}
 use Rattle.turn_terms.specs.Resend.{passed1, passed2}
-use Rattle.turn_terms.specs.Step.{Setting, Outcome, Kept, IsFull, AwaitsTooMany, Faulted, Step, asking, breaking, closing_silently}
-use Rattle.turn_terms.specs.PublishStep.{PublishCase, Closes, Repeats, Refuses, Asks, publish_case, publish_by_case, publish_by_outcome, publish_step, pubrel_step, pubrel_by_outcome, is_awaited, release_group, completed}
-use Rattle.turn_terms.specs.PacketStep.{step_unless, planned_step, event_step, packet_step, ack_step, disconnect_step, subscribe_event, unsubscribe_event, puback_event, pubrec_event, breaks_interval, interval_of, passed_or_none, starts_of}
+use Rattle.turn_terms.specs.Step.{Setting, Outcome, Kept, IsFull, AwaitsTooMany, Faulted, asking, breaking, closing_silently}
+use Rattle.turn_terms.specs.PublishStep.{PublishCase, Closes, Repeats, Refuses, Asks, publish_case, publish_by_case, publish_by_outcome, publish_step, pubrel_step, is_awaited, release_group, completed}
+use Rattle.turn_terms.specs.PacketStep.{step_unless, planned_step, packet_step, ack_step, disconnect_step, puback_event, pubrec_event, breaks_interval, interval_of, passed_or_none, starts_of}
 
 -- ---- changes of one client
 

@@ -1,6 +1,5 @@
 -- A worker as the world sees it: what its journal holds, what it owes, its connections, and what is to be put out.
-use Rattle.std.specs.Prelude.{ℕ, ◌+◌, Bool, true, false, ◌&&◌, not, ◌==◌, nat_le, nat_lt, List, [], ◌∷◌, ◌++◌, length, map, filter, find, Option, Some, None}
-use Rattle.std.specs.Str.{bytes_eq}
+use Rattle.std.specs.Prelude.{ℕ, Bool, true, false, ◌&&◌, nat_le, List, [], ◌∷◌, map, Option, Some, None}
 use Rattle.topic_terms.specs.Profile.{Profile, Config}
 use Rattle.topic_terms.specs.StoredMessage.{StoredMessage}
 use Rattle.shard_terms.specs.ShardList.{ShardList}

@@ -1,12 +1,11 @@
 -- The moves of a worker, and what they put out. A move that isn't allowed changes nothing and puts out nothing.
-use Rattle.std.specs.Prelude.{ℕ, ◌+◌, ◌-◌, Bool, true, false, ◌&&◌, ◌||◌, not, ◌==◌, nat_le, nat_lt, if◌then◌else◌, List, [], ◌∷◌, ◌++◌, length, map, filter, find, take, drop, slice_get, slice_set, Option, Some, None, is_some, is_none}
+use Rattle.std.specs.Prelude.{ℕ, ◌+◌, ◌-◌, Bool, true, false, ◌&&◌, ◌||◌, not, ◌==◌, nat_le, if◌then◌else◌, List, [], ◌∷◌, ◌++◌, length, map, filter, find, take, drop, slice_get, slice_set, Option, Some, None, is_some, is_none}
 use Rattle.std.specs.List.{list_any, list_all}
 use Rattle.std.specs.Str.{bytes_eq}
 use Rattle.topic_terms.specs.Profile.{Profile, Config}
 use Rattle.topic_terms.specs.StoredMessage.{StoredMessage}
 use Rattle.shard_terms.specs.ShardList.{ShardList}
-use Rattle.session_terms.specs.declared.entry.Entry.{Entry}
-use Rattle.session_terms.specs.PlainSession.{PlainSession, Sessions, session_of}
+use Rattle.session_terms.specs.PlainSession.{PlainSession, session_of}
 use Rattle.session_terms.specs.Change.{Change, Effect, Began, Bound, Issued, Issues, change}
 use Rattle.session_terms.specs.Acting.{act_all, changed_session}
 use Rattle.session_terms.specs.Ends.{part_changes, restart_owes}
