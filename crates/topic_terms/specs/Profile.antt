@@ -1,6 +1,6 @@
 -- The numbers of the broker's limits, and what of it is built. Definitions take a profile, so that a stage on the way has one of
 -- its own, and a row at a limit computes with a small number.
-use Rattle.std.specs.Prelude.{ℕ, Bool, true}
+use Rattle.std.specs.Prelude.{ℕ, Bool, true, false}
 
 pub record Profile : Type 0 where
   -- the most bytes of a packet, its header included (MQTT 3.1.2.11.4), and of a client identifier
@@ -90,3 +90,28 @@ pub record Config : Type 0 where
 
 abbrev pub default_config : Config
 default_config = record { shards = 1; workers = 1; top = 100; below = 10; messages = 32768; retention = 3600000 }
+
+-- ---- stages on the way to the whole
+
+-- each publish is a group of its own, without Forgets, each packet's changes are a record of their own, and all bodies are in memory
+abbrev pub singly : Profile → Profile
+singly profile = record profile { joins = false; forgets_too = false; cools = false }
+
+-- one generation is held, and none is ever sealed
+abbrev pub one_generation : Profile → Profile
+one_generation profile = record profile { generations = 1 }
+
+-- all topics of a generation have one stream
+abbrev pub unlearned : Profile → Profile
+unlearned profile = record profile { learns = false }
+
+-- a publish that is to expire is refused
+abbrev pub unexpiring : Profile → Profile
+unexpiring profile = record profile { expires = false }
+
+-- no window is wide
+abbrev pub narrow : Profile → Profile
+narrow profile = record profile { widens = false }
+
+abbrev pub first_stage : Profile
+first_stage = narrow (unexpiring (unlearned (one_generation (singly whole))))

@@ -36,9 +36,11 @@ step_same : (conn now : ℕ) (step : Option Step) (w : Worker) → is_some step 
 step_same conn now None w never = refl
 step_same conn now (Some step) w never = cc
 
-resend_same : (conn : ℕ) (r : Option Resent) (w : Worker) → is_some r ≡ false → resend_emitted conn r w ≡ w
-resend_same conn None w never = refl
-resend_same conn (Some r) w never = cc
+resend_same : (conn : ℕ) (k : Option PlainConnection) (r : Option Resent) (w : Worker) → is_some r ≡ false → resend_emitted conn k r w ≡ w
+resend_same conn (Some k) (Some r) w never = cc
+resend_same conn (Some k) None w never = refl
+resend_same conn None (Some r) w never = refl
+resend_same conn None None w never = refl
 
 bound_with_same : (conn : ℕ) (c : ConnectFields) (now : ℕ) (k : Option PlainConnection) (m : Option PlainSession) (w : Worker) →
     (is_none k && is_some m) ≡ false → bound_with conn c now k m w ≡ w
@@ -77,7 +79,7 @@ module _ (profile : Profile) (config : Config) where
   not_allowed w (Emit (OfItem place) now) never = emitted_same place now (item_at w place) w never
   not_allowed w (Emit (OfPacket conn packet outcomes) now) never =
       step_same conn now (answered_step (setting_of profile config now w) packet outcomes (connection_in w conn) (session_in w conn)) w never
-  not_allowed w (Emit (OfResend conn) now) never = resend_same conn (resent_for profile now w (connection_in w conn) (session_in w conn)) w never
+  not_allowed w (Emit (OfResend conn) now) never = resend_same conn (connection_in w conn) (resent_for profile now w (connection_in w conn) (session_in w conn)) w never
   not_allowed w (Bind conn now) never = bound_same conn now (find (accepts_on conn) w.due) (connection_in w conn) w never
   not_allowed w (TakeOver conn) never = taken_over_same (may_take_over conn w.due (connection_in w conn)) conn w never
   not_allowed w (Unbind conn ending now) never = unbound_same conn ending now (connection_in w conn) w never

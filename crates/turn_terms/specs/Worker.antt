@@ -30,12 +30,22 @@ pub record Pending : Type 0 where
   pub changes : List Change
   pub item : Option Item
 
--- what was delivered on a connection: that it was bound, with the entries to be sent again and those passed over; entries sent again; and
--- entries of a batch
+-- What came of a connection: it was bound, with the entries to be sent again and those passed over; entries were sent again, with their
+-- packets; and entries of a batch were delivered.
 pub data Noted : Type 0 where
-  Bound : ℕ → List Entry → List Entry → Noted
-  SentAgain : ℕ → List Entry → List PlainPacket → Noted
-  Delivered : ℕ → List Entry → List PlainPacket → Noted
+  Bound : List Entry → List Entry → Noted
+  SentAgain : List Entry → List PlainPacket → Noted
+  Delivered : List Entry → List PlainPacket → Noted
+
+-- the same with the connection, its client and the number of its session
+pub record Note : Type 0 where
+  pub connection : ℕ
+  pub client : List ℕ
+  pub incarnation : ℕ
+  pub noted : Noted
+
+abbrev pub note : PlainConnection → Noted → Note
+note k noted = record { connection = k.number; client = k.client; incarnation = k.incarnation; noted = noted }
 
 -- Its number; the committed sessions, and the changes that are owed on top of them; its connections; the list that it has seen of each
 -- shard; the record that pends; what no Emit has put out yet; and the history of what was delivered.
@@ -47,7 +57,7 @@ pub record Worker : Type 0 where
   pub seen : List ShardList
   pub pending : Option Pending
   pub due : List Item
-  pub history : List Noted
+  pub history : List Note
 
 -- a worker that begins, having seen these lists
 abbrev pub opening_worker : ℕ → List ShardList → Worker

@@ -18,7 +18,7 @@ use Rattle.turn_terms.specs.Step.{Setting, Outcome, Kept, IsFull, AwaitsTooMany,
 use Rattle.turn_terms.specs.PublishStep.{acked_replies, acknowledged, holding, completed, of_shard}
 use Rattle.turn_terms.specs.ConnectStep.{connect_refusal, connect_step, client_for}
 use Rattle.turn_terms.specs.PacketStep.{packet_step, closed_changes, ended_changes}
-use Rattle.turn_terms.specs.Worker.{Worker, Item, Answer, Answers, Accepts, Delivers, Pending, Noted, SentAgain, Delivered, Out, Sent, Closed, sessions_of, setting_of, connection_in, session_in, sent_on, sendable, packets_of, acked_by}
+use Rattle.turn_terms.specs.Worker.{Worker, Item, Answer, Answers, Accepts, Delivers, Pending, Note, note, SentAgain, Delivered, Out, Sent, Closed, sessions_of, setting_of, connection_in, session_in, sent_on, sendable, packets_of, acked_by}
 use Rattle.turn_terms.specs.Worker as Worker
 use Rattle.turn_terms.specs.Reasons as Reason
 
@@ -307,8 +307,8 @@ after_answer now (Answers rs effects) k = after_packets effects now k
 after_answer now (Accepts c client rs) k = k
 after_answer now (Delivers b fresh) k = record k { quota = k.quota - quota_used b.entries; served = Some (b.subscription, b.shard) }
 
-abbrev pub noted_answer : ℕ → Worker → PlainConnection → Answer → List Noted
-noted_answer now w k (Delivers b fresh) = Delivered k.number b.entries (batch_packets now w b (session_in w k.number)) ∷ []
+abbrev pub noted_answer : ℕ → Worker → PlainConnection → Answer → List Note
+noted_answer now w k (Delivers b fresh) = note k (Delivered b.entries (batch_packets now w b (session_in w k.number))) ∷ []
 noted_answer now w k other = []
 
 abbrev pub without_item : ℕ → List Item → List Item
@@ -351,10 +351,13 @@ abbrev pub resent_for : Profile → ℕ → Worker → Option PlainConnection �
 resent_for profile now w (Some k) (Some m) = Some (resent profile now m k w.seen)
 resent_for profile now w k m = None
 
-abbrev pub resend_emitted : ℕ → Option Resent → Worker → Worker
-resend_emitted conn None w = w
-resend_emitted conn (Some r) w =
-    record w { connections = on_connection conn (resent_connection r) w.connections; history = w.history ++ SentAgain conn r.taken r.packets ∷ [] }
+abbrev pub resend_emitted : ℕ → Option PlainConnection → Option Resent → Worker → Worker
+resend_emitted conn (Some k) (Some r) w =
+    record w {
+      connections = on_connection conn (resent_connection r) w.connections;
+      history = w.history ++ note k (SentAgain r.taken r.packets) ∷ [];
+    }
+resend_emitted conn k r w = w
 
 -- ---- Bind, TakeOver and Unbind
 
@@ -370,7 +373,7 @@ accepts_client client conn i =
 abbrev pub bound_with : ℕ → ConnectFields → ℕ → Option PlainConnection → Option PlainSession → Worker → Worker
 bound_with conn c now None (Some m) w =
     let k = with_rest m w.seen (bound_connection conn m c now) in
-    record w { connections = w.connections ++ k ∷ []; history = w.history ++ Worker.Bound conn k.rest k.passed ∷ [] }
+    record w { connections = w.connections ++ k ∷ []; history = w.history ++ note k (Worker.Bound k.rest k.passed) ∷ [] }
 bound_with conn c now k m w = w
 
 abbrev pub bound_answer : ℕ → ℕ → Answer → Worker → Worker
@@ -425,7 +428,7 @@ module _ (profile : Profile) (config : Config) where
   worker_step w (Emit (OfItem place) now) = emitted_if place now (item_at w place) w
   worker_step w (Emit (OfPacket conn packet outcomes) now) =
       step_emitted conn now (answered_step (setting_of profile config now w) packet outcomes (connection_in w conn) (session_in w conn)) w
-  worker_step w (Emit (OfResend conn) now) = resend_emitted conn (resent_for profile now w (connection_in w conn) (session_in w conn)) w
+  worker_step w (Emit (OfResend conn) now) = resend_emitted conn (connection_in w conn) (resent_for profile now w (connection_in w conn) (session_in w conn)) w
   worker_step w (Bind conn now) = bound_if conn now (find (accepts_on conn) w.due) (connection_in w conn) w
   worker_step w (TakeOver conn) = taken_over_if (may_take_over conn w.due (connection_in w conn)) conn w
   worker_step w (Unbind conn ending now) = unbound conn ending now (connection_in w conn) w

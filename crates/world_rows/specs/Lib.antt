@@ -20,3 +20,4 @@ pub mod HostileGenerations
 pub mod HostilePieces
 pub mod HostileTicks
 pub mod HostileWorkers
+pub mod StageRows

@@ -5,3 +5,4 @@ pub mod Running
 pub mod Computing
 pub mod Allowed
 pub mod AllowedLaws
+pub mod WorldLaws
