@@ -18,15 +18,19 @@ pub struct Framer {
 }
 
 impl Model for Framer {
-    ghost use Rattle.mqtt_frame.specs.PlainFramer.{PlainFramer, kept_of};
+    ghost use Rattle.std.specs.Prelude.{◌≡◌, [], IfSome};
+    ghost use Rattle.mqtt_frame.specs.PlainFramer.{PlainFramer};
 
     ghost Value = { PlainFramer };
 
     ghost view = { λ f. record {
       limit = f.limit;
-      kept = kept_of f.bad f.kept.items;
+      kept = f.kept.items;
       bad = f.bad;
     } };
+
+    // Nothing is kept once the stream has ended.
+    ghost invariant = { λ f. IfSome f.bad (λ _. f.kept.items ≡ []) };
 }
 
 impl Framer {
@@ -66,6 +70,7 @@ impl Framer {
             Ok(None) => Ok(()),
             Ok(Some(header)) => {
                 self.bad = Some(header);
+                self.kept.clear();
                 Err(FrameRefused::from(header))
             }
             Err(_) => {

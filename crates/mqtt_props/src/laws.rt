@@ -1,4 +1,4 @@
-ghost use Rattle.std.specs.Prelude.{◌≡◌, ◌≤◌, ◌++◌, [], ◌∷◌, ℕ, Bool, true, List, length, All, Ok, Err};
+ghost use Rattle.std.specs.Prelude.{◌≡◌, ◌≤◌, ◌++◌, [], ◌∷◌, ℕ, Bool, true, List, length, map, All, Ok, Err};
 ghost use Rattle.std.specs.List.Sorted.{IsPermutation};
 ghost use Rattle.wire_fields.specs.Spelled.{spelled_var};
 ghost use Rattle.wire_fields.specs.Reading.{AreBytes};
@@ -6,13 +6,36 @@ ghost use Rattle.mqtt_props.specs.declared.prop.Prop.{Prop};
 ghost use Rattle.mqtt_props.specs.declared.refused.PropRefused.{PropRefused};
 ghost use Rattle.mqtt_props.specs.declared.table.Holder.{Holder};
 ghost use Rattle.mqtt_props.specs.declared.table.Holder.TheVariants.{Publish};
+ghost use Rattle.mqtt_props.specs.Table.{rows};
 ghost use Rattle.mqtt_props.specs.Prop.{IsProp, IsPropIn, spelled_prop};
 ghost use Rattle.mqtt_props.specs.Reading.{then_read, prop_at, IsOfBytes};
 ghost use Rattle.mqtt_props.specs.Props.{arranged, bare_list, bare_props, checked, in_writing_order, list_at, props_at, spelled_bare, spelled_props, AreProps, FitsIn, IsArranged, SpellsBare, SpellsSized, TookList};
 ghost use Rattle.mqtt_props.specs.Lookup.{forwarded};
 ghost use Rattle.mqtt_props.specs.Sizes.{var_size, prop_size, bare_size, props_size};
 
+use crate::table::{
+    ASSIGNED_CLIENT_IDENTIFIER, AUTHENTICATION_DATA, AUTHENTICATION_METHOD, CONTENT_TYPE,
+    CORRELATION_DATA, MAXIMUM_PACKET_SIZE, MAXIMUM_QOS, MESSAGE_EXPIRY_INTERVAL,
+    PAYLOAD_FORMAT_INDICATOR, REASON_STRING, RECEIVE_MAXIMUM, REQUEST_PROBLEM_INFORMATION,
+    REQUEST_RESPONSE_INFORMATION, RESPONSE_INFORMATION, RESPONSE_TOPIC, RETAIN_AVAILABLE,
+    SERVER_KEEP_ALIVE, SERVER_REFERENCE, SESSION_EXPIRY_INTERVAL, SHARED_SUBSCRIPTION_AVAILABLE,
+    SUBSCRIPTION_IDENTIFIER, SUBSCRIPTION_IDENTIFIER_AVAILABLE, TOPIC_ALIAS, TOPIC_ALIAS_MAXIMUM,
+    USER_PROPERTY, WILDCARD_SUBSCRIPTION_AVAILABLE, WILL_DELAY_INTERVAL,
+};
 use wire_fields::MOST_VAR;
+
+/// A law: each name of an identifier stands for the one of the table's row of that property (MQTT 2.2.2.2, table 2-4).
+pub fn names_are_of_the_table()
+    ensures { map (λ r. r.identifier) rows ≡ PAYLOAD_FORMAT_INDICATOR ∷ MESSAGE_EXPIRY_INTERVAL
+        ∷ CONTENT_TYPE ∷ RESPONSE_TOPIC ∷ CORRELATION_DATA ∷ SUBSCRIPTION_IDENTIFIER
+        ∷ SESSION_EXPIRY_INTERVAL ∷ ASSIGNED_CLIENT_IDENTIFIER ∷ SERVER_KEEP_ALIVE
+        ∷ AUTHENTICATION_METHOD ∷ AUTHENTICATION_DATA ∷ REQUEST_PROBLEM_INFORMATION
+        ∷ WILL_DELAY_INTERVAL ∷ REQUEST_RESPONSE_INFORMATION ∷ RESPONSE_INFORMATION
+        ∷ SERVER_REFERENCE ∷ REASON_STRING ∷ RECEIVE_MAXIMUM ∷ TOPIC_ALIAS_MAXIMUM ∷ TOPIC_ALIAS
+        ∷ MAXIMUM_QOS ∷ RETAIN_AVAILABLE ∷ USER_PROPERTY ∷ MAXIMUM_PACKET_SIZE
+        ∷ WILDCARD_SUBSCRIPTION_AVAILABLE ∷ SUBSCRIPTION_IDENTIFIER_AVAILABLE
+        ∷ SHARED_SUBSCRIPTION_AVAILABLE ∷ [] }
+{}
 
 /// A law: what is spelled is read again, whatever follows it. Properties are read in any order, and a list that is in
 /// writing order, without a repeated property or a bad value, is read as it is.

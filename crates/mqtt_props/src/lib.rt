@@ -30,8 +30,9 @@ mod refused;
 mod table;
 
 pub use laws::{
-    changed_lists_fit, checks_come_last, none_begins_another, order_keeps_all, read_was_spelled,
-    refused_for_its_bytes, sizes_are_numbers, spelled_is_read, written_is_arranged,
+    changed_lists_fit, checks_come_last, names_are_of_the_table, none_begins_another,
+    order_keeps_all, read_was_spelled, refused_for_its_bytes, sizes_are_numbers, spelled_is_read,
+    written_is_arranged,
 };
 pub use prop::{Prop, write_prop};
 pub use props::{Props, read, read_bare, take_list, take_props, write, write_bare};

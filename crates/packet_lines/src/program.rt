@@ -33,6 +33,8 @@ pub fn run_program<R: Read, W: Write>(
     ensures sink { exit_status result.0 ≡ 4 → Rose 0 (⟦<Output<W> as Sink>⟧.faults result.2) }
     ensures read { exit_status result.0 ≡ 0
         → IfSome (R.remaining reader) (λ _. ⟦<Input<R> as Source>⟧.left result.1 ≡ Some []) }
+    ensures unfailed { exit_status result.0 ≢ 3 → ⟦<Input<R> as Source>⟧.faults result.1 ≡ 0 }
+    ensures kept { exit_status result.0 ≢ 4 → ⟦<Output<W> as Sink>⟧.faults result.2 ≡ 0 }
 {
     let mut source = Input::new(reader);
     let mut sink = Output::new(writer);

@@ -24,3 +24,10 @@ pub mod Shards
 pub mod MoveLaws
 pub mod Examples
 pub mod AllowedMoves
+pub mod PlaceLaws
+pub mod HeldLaws
+pub mod RunLaws
+pub mod NextRun
+pub mod SweepLaws
+pub mod NextRunLaws
+pub mod GrownSweepLaws

@@ -1,4 +1,4 @@
-ghost use Rattle.std.specs.Prelude.{◌≡◌, ◌≤◌, ◌<◌, ◌++◌, ◌∷◌, Bool, false, List, ℕ, [], Some, None, map, slice_get};
+ghost use Rattle.std.specs.Prelude.{◌≡◌, ◌≤◌, ◌<◌, ◌++◌, ◌∷◌, Bool, true, false, List, ℕ, [], Some, None, map, take, slice_get};
 ghost use Rattle.topic_terms.specs.StoredMessage.{StoredMessage};
 ghost use Rattle.shard_terms.specs.LearnedPath.{Path, Tokens, patterns_of, learned, learned_path, path_from, number_of};
 ghost use Rattle.shard_terms.specs.Streams.{Held, held_generations, streamed, streams_from, topics_of};
@@ -10,6 +10,11 @@ ghost use Rattle.shard_terms.specs.Growing.{HasCut, HasGrown};
 ghost use Rattle.shard_terms.specs.Capacity.{learns_few_or_within, learns_within, rotated, dropped};
 ghost use Rattle.shard_terms.specs.Lists.{IsList};
 ghost use Rattle.shard_terms.specs.GrownLaws.{HasHeld, Continues};
+ghost use Rattle.shard_terms.specs.Wanted.{wanted};
+ghost use Rattle.shard_terms.specs.PlaceLaws.{HasPlace};
+ghost use Rattle.shard_terms.specs.NextRun.{IsNextRun};
+ghost use Rattle.shard_terms.specs.SweepOrder.{Run, next_run, is_in_order, is_issued_by};
+ghost use Rattle.shard_terms.specs.declared.sweep.Sweep.{Sweep};
 ghost use Rattle.shard_terms.specs.ShardMoves.{Shard, ShardMove, Nothing, Show, is_nothing, if_drop, opening_shard, shard_step, shard_run, crashed_shard};
 ghost use Rattle.shard_terms.specs.Shards.{IsShard, is_show};
 
@@ -166,4 +171,53 @@ pub fn crash_takes_nothing()
         floor_of (crashed_shard config goes_in s).stored ≡ floor_of s.stored }
     ensures shown { (config : Config) (goes_in : Bool) (s : Shard) →
         (crashed_shard config goes_in s).shown ≡ (crashed_shard config goes_in s).stored }
+{}
+
+/// A law: the next run of a sweep in order, over a list in order, skips nothing. Its messages rise by their offsets, each
+/// is wanted and not issued yet, and each earlier wanted message of its topic was issued or stands before it; they are as
+/// many as the limit at most, and the sweep behind each of them is in order and counts what the sweep did and those up
+/// to this one. Each front of a run is the run of a lower limit. None comes exactly where all that is wanted was issued,
+/// or the limit is 0.
+pub fn the_next_run_is_in_order()
+    ensures next { (profile : Profile) (wish : Tokens) (start : ℕ) (list : ShardList)
+        (sweep : Sweep) (limit : ℕ) (run : Run) → IsList list →
+        is_in_order profile list start sweep ≡ true →
+        next_run profile wish start list sweep limit ≡ Some run →
+        IsNextRun profile wish start list sweep limit run }
+    ensures front { (profile : Profile) (wish : Tokens) (start : ℕ) (list : ShardList)
+        (sweep : Sweep) (limit few : ℕ) (run : Run) → 0 < few → few ≤ limit →
+        next_run profile wish start list sweep limit ≡ Some run →
+        next_run profile wish start list sweep few
+        ≡ Some (record run { messages = take few run.messages }) }
+    ensures none { (profile : Profile) (wish : Tokens) (start : ℕ) (list : ShardList)
+        (sweep : Sweep) (limit : ℕ) (w : StoredMessage) → IsList list →
+        is_in_order profile list start sweep ≡ true → 0 < limit →
+        next_run profile wish start list sweep limit ≡ None →
+        HasPlace (wanted wish start list) w → is_issued_by profile list sweep w.offset ≡ true }
+    ensures ended { (profile : Profile) (wish : Tokens) (start : ℕ) (list : ShardList)
+        (sweep : Sweep) (limit : ℕ) → IsList list →
+        is_in_order profile list start sweep ≡ true →
+        ((w : StoredMessage) → HasPlace (wanted wish start list) w →
+        is_issued_by profile list sweep w.offset ≡ true) →
+        next_run profile wish start list sweep limit ≡ None }
+    ensures limit { (profile : Profile) (wish : Tokens) (start : ℕ) (list : ShardList)
+        (sweep : Sweep) → next_run profile wish start list sweep 0 ≡ None }
+{}
+
+/// A law: as a list grows, a sweep in order stays in order; of each message that was there and still is it counts what it
+/// counted, and it counts none of the new ones.
+pub fn sweeps_stay()
+    ensures order { (profile : Profile) (list later : ShardList) (start : ℕ) (sweep : Sweep) →
+        IsList list → IsList later → HasGrown list later →
+        is_in_order profile list start sweep ≡ true → is_in_order profile later start sweep ≡ true }
+    ensures old { (profile : Profile) (list later : ShardList) (start : ℕ) (sweep : Sweep)
+        (m : StoredMessage) → IsList list → IsList later → HasGrown list later →
+        is_in_order profile list start sweep ≡ true →
+        HasPlace later.messages m → m.offset < next_of list →
+        is_issued_by profile later sweep m.offset ≡ is_issued_by profile list sweep m.offset }
+    ensures new { (profile : Profile) (list later : ShardList) (start : ℕ) (sweep : Sweep)
+        (m : StoredMessage) → IsList list → IsList later → HasGrown list later →
+        is_in_order profile list start sweep ≡ true →
+        HasPlace later.messages m → next_of list ≤ m.offset →
+        is_issued_by profile later sweep m.offset ≡ false }
 {}

@@ -21,3 +21,9 @@ pub mod AllowedLaws
 pub mod DeliveryLaws
 pub mod RisingLaws
 pub mod MayIssueLaws
+pub mod Counting
+pub mod CutLaws
+pub mod PumpLaws
+pub mod Pumping
+pub mod PumpedLaws
+pub mod CountingLaws

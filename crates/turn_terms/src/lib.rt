@@ -9,14 +9,16 @@
 //! `specs/PublishStep.antt`, `specs/ConnectStep.antt` and `specs/PacketStep.antt`; then what a pump does,
 //! `specs/Batch.antt`, `specs/Pump.antt`, `specs/MayIssue.antt` and `specs/Resend.antt`. `specs/Worker.antt` and
 //! `specs/WorkerMoves.antt` have the worker and its moves, `specs/Allowed.antt` which are allowed; `specs/Draft.antt`,
-//! `specs/Pieces.antt` and `specs/Parts.antt` the parts of a turn. The laws stand in `src/laws.rt`, `src/delivery_laws.rt`
-//! and `src/issue_laws.rt`.
+//! `specs/Pieces.antt` and `specs/Parts.antt` the parts of a turn. The laws stand in `src/laws.rt`, `src/delivery_laws.rt`,
+//! `src/issue_laws.rt` and `src/pump_laws.rt`.
 #![tactic(auto)]
 
 mod delivery_laws;
 mod issue_laws;
 mod laws;
+mod pump_laws;
 
 pub use delivery_laws::delivery_length_is_exact;
 pub use issue_laws::the_test_is_the_relation;
 pub use laws::{a_packet_keeps_to_its_session, only_allowed_moves_move};
+pub use pump_laws::{a_batch_may_be_issued, counting_stays, what_is_pumped_may_be_issued};

@@ -21,3 +21,4 @@ pub mod HostilePieces
 pub mod HostileTicks
 pub mod HostileWorkers
 pub mod StageRows
+pub mod MoveRows
