@@ -1,5 +1,5 @@
 -- How changes act on the sessions of a worker.
-use Rattle.std.specs.Prelude.{ℕ, zero, suc, ◌+◌, ◌-◌, true, false, not, ◌==◌, if◌then◌else◌, List, [], ◌∷◌, ◌++◌, map, filter, slice_set, Some, None}
+use Rattle.std.specs.Prelude.{ℕ, zero, suc, ◌+◌, ◌-◌, Bool, true, false, not, ◌==◌, if◌then◌else◌, List, [], ◌∷◌, ◌++◌, map, filter, slice_set, Some, None}
 use Rattle.std.specs.Str.{bytes_eq}
 use Rattle.shard_terms.specs.declared.sweep.Sweep.{Sweep}
 use Rattle.session_terms.specs.PlainSession.{PlainSession, Subscription, Sessions, begun_session}
@@ -21,9 +21,14 @@ subscribed_session s m =
       versions = m.versions ++ record { number = s.version; subscription = s.subscription; options = s.options; identifier = s.identifier } ∷ [];
     }
 
+-- one of them, if it is the one that is meant; for the others the change isn't computed
+abbrev pub changed_if : {A : Type 0} → Bool → (A → A) → A → A
+changed_if true f x = f x
+changed_if false f x = x
+
 abbrev pub on_subscription : ℕ → (Subscription → Subscription) → List Subscription → List Subscription
 on_subscription number f [] = []
-on_subscription number f (s ∷ ss) = (if s.number == number then f s else s) ∷ on_subscription number f ss
+on_subscription number f (s ∷ ss) = changed_if (s.number == number) f s ∷ on_subscription number f ss
 
 abbrev pub replaced_session : Replaces → PlainSession → PlainSession
 replaced_session r m =
@@ -79,7 +84,7 @@ changed_session (Passed p) m = passed_session p m
 
 abbrev pub on_session : List ℕ → (PlainSession → PlainSession) → List PlainSession → List PlainSession
 on_session client f [] = []
-on_session client f (m ∷ ms) = (if bytes_eq m.client client then f m else m) ∷ on_session client f ms
+on_session client f (m ∷ ms) = changed_if (bytes_eq m.client client) f m ∷ on_session client f ms
 
 abbrev pub without_session : List ℕ → List PlainSession → List PlainSession
 without_session client ms = filter (λ (m : PlainSession). not (bytes_eq m.client client)) ms

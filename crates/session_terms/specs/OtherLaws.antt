@@ -3,7 +3,7 @@ use Rattle.std.proofs.Common.{◌≡◌, ℕ, ◌+◌, ◌-◌, Bool, true, fals
 use Rattle.std.proofs.lemmas.Slice.Eq.{bytes_eq-Decides}
 use Rattle.session_terms.specs.PlainSession.{PlainSession, Sessions, session_of, begun_session}
 use Rattle.session_terms.specs.Change.{Effect, Began, Ended, Bound, Parted, Subscribed, Replaced, Unsubscribed, Issued, Acked, Received, Done, Passed, change}
-use Rattle.session_terms.specs.Acting.{numbers_from, changed_session, on_session, without_session, act}
+use Rattle.session_terms.specs.Acting.{numbers_from, changed_if, changed_session, on_session, without_session, act}
 
 -- a change leaves a session its client
 pub keeps_client : (effect : Effect) (m : PlainSession) → (changed_session effect m).client ≡ m.client
@@ -39,7 +39,7 @@ changing_stays client other differ effect [] = refl
 changing_stays client other differ effect (m ∷ ms) = by (bytes_eq m.client client) refl (changing_stays client other differ effect ms)
   where
     by : (b : Bool) → bytes_eq m.client client ≡ b → of_client other (on_session client (changed_session effect) ms) ≡ of_client other ms →
-        of_client other ((if b then changed_session effect m else m) ∷ on_session client (changed_session effect) ms) ≡ of_client other (m ∷ ms)
+        of_client other (changed_if b (changed_session effect) m ∷ on_session client (changed_session effect) ms) ≡ of_client other (m ∷ ms)
     by false is rest = ap (λ found. if bytes_eq m.client other then Some m else found) rest
     by true is rest =
         let here = not_other client other m differ is in

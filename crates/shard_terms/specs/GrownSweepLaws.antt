@@ -9,13 +9,13 @@ use Rattle.shard_terms.specs.declared.sweep.Sweep.{Sweep}
 use Rattle.shard_terms.specs.ShardList.{Cut, ShardList, newest, oldest_of, floor_of, next_of}
 use Rattle.shard_terms.specs.Growing.{HasCut, HasGrown}
 use Rattle.shard_terms.specs.Streams.{Streamed, Held, held_from, held_generations, streams_of, messages_between}
-use Rattle.shard_terms.specs.SweepOrder.{at_cut, held_sweep, is_behind, is_issued_in, is_issued_by, end_of, is_in_order}
+use Rattle.shard_terms.specs.SweepOrder.{at_cut, held_sweep, is_behind, is_issued_in, is_issued_by, is_in_order}
 use Rattle.shard_terms.specs.Lists.{IsRow, IsList}
 use Rattle.shard_terms.specs.ListLaws.{newest_number, not_older, not_newer, row_first}
 use Rattle.shard_terms.specs.OrderLaws.{newest_in_order}
 use Rattle.shard_terms.specs.GrownLaws.{Continues, HasHeld, streams_stay}
 use Rattle.shard_terms.specs.PlaceLaws.{HasPlace, place_left, counted_place}
-use Rattle.shard_terms.specs.HeldLaws.{AreHeld, held_place, held_number, held_offset, held_apart, streamed_one, end_is, end_gone, list_held, Lies, list_lies, lies_in_list, held_long}
+use Rattle.shard_terms.specs.HeldLaws.{end_of, AreHeld, held_place, held_number, held_offset, held_apart, streamed_one, end_is, end_gone, list_held, Lies, list_lies, lies_in_list, held_long}
 use Rattle.shard_terms.specs.SweepLaws.{InOrder, order_is, order_from, issued_is}
 
 -- at each place of a list stands something

@@ -9,9 +9,9 @@ use Rattle.topic_terms.specs.StoredMessage.{StoredMessage}
 use Rattle.topic_terms.specs.Profile.{Profile}
 use Rattle.shard_terms.specs.ShardList.{Cut, ShardList, oldest_of, floor_of, next_of}
 use Rattle.shard_terms.specs.LearnedPath.{Path, path_from, with_path, learned}
-use Rattle.shard_terms.specs.Streams.{Streamed, streamed, streams_from, in_one_stream, streams_if, streams_of, topics_of, messages_between, Held, held_from, held_generations}
+use Rattle.shard_terms.specs.Streams.{Streamed, streamed, streams_from, in_one_stream, streams_if, streams_of, topics_of, messages_between, end_before, Held, held_from, held_generations}
 use Rattle.shard_terms.specs.Wanted.{same_topic}
-use Rattle.shard_terms.specs.SweepOrder.{counted_from, end_of}
+use Rattle.shard_terms.specs.SweepOrder.{counted_from, end_in}
 use Rattle.shard_terms.specs.Lists.{IsRow, IsList}
 use Rattle.shard_terms.specs.NumberLaws.{streams_exact_from}
 use Rattle.shard_terms.specs.ListLaws.{row_first}
@@ -117,7 +117,18 @@ module _ (number first : ℕ) (held : List Held) (row : AreHeld number first hel
       let is = (held_place number first held has_g.0 g row has_g.1).0 in
       is.streams has_s.0 has_t.0 s t has_s.1 has_t.1 ((slice_eq-Decides bytes_eq-Decides s.message.topic t.message.topic (same_topic s.message.topic t.message.topic) refl).0 same)
 
--- the end of a generation by its number
+-- the end of a generation by its number, the floor where none has it
+abbrev pub end_of : List Held → ℕ → ℕ → ℕ
+end_of [] floor number = floor
+end_of (g ∷ held) floor number = if eqb g.cut.number number then g.end else end_of held floor number
+
+-- by the cuts alone, which says the same without the messages
+pub end_by_cuts : (profile : Profile) (list : ShardList) (cuts : List Cut) (number : ℕ) →
+    end_in list cuts number ≡ end_of (held_from profile list cuts) (floor_of list) number
+end_by_cuts profile list [] number = refl
+end_by_cuts profile list (cut ∷ cuts) number =
+    ap (λ n. if eqb cut.number number then end_before list cuts else n) (end_by_cuts profile list cuts number)
+
 pub end_is : (number first floor : ℕ) (held : List Held) (k : ℕ) (g : Held) → AreHeld number first held → slice_get held k ≡ Some g → end_of held floor g.cut.number ≡ g.end
 end_is number first floor [] k g row e = absurd (none-some g e)
 end_is number first floor (h ∷ held) zero g row e =

@@ -11,11 +11,11 @@ use Rattle.shard_terms.specs.declared.sweep.Sweep.{Sweep}
 use Rattle.shard_terms.specs.ShardList.{ShardList, oldest_of, floor_of, next_of}
 use Rattle.shard_terms.specs.Streams.{Streamed, Held, held_generations}
 use Rattle.shard_terms.specs.Wanted.{is_wanted, wanted, same_topic}
-use Rattle.shard_terms.specs.SweepOrder.{at_cut, held_sweep, is_behind, is_issued_in, is_issued_by, stretches, is_in, wanted_in, Run, first_run, at_most, next_run, end_of, is_in_order}
+use Rattle.shard_terms.specs.SweepOrder.{at_cut, held_sweep, is_behind, is_issued_in, is_issued_by, stretches, is_in, wanted_in, Run, first_run, at_most, next_run, is_in_order}
 use Rattle.shard_terms.specs.Lists.{IsList}
 use Rattle.shard_terms.specs.ListLaws.{newest_number}
 use Rattle.shard_terms.specs.PlaceLaws.{HasPlace, place_kept, kept_place, any_place, place_any, place_taken, place_within, taken_under, taken_before, place_mapped, mapped_place, Rising, rising_places, kept_rise}
-use Rattle.shard_terms.specs.HeldLaws.{held_place, held_number, held_offset, held_one, held_apart, streamed_one, same_stream, end_is, list_held, Lies, list_lies, lies_in_list, held_long}
+use Rattle.shard_terms.specs.HeldLaws.{end_of, held_place, held_number, held_offset, held_one, held_apart, streamed_one, same_stream, end_is, list_held, Lies, list_lies, lies_in_list, held_long}
 use Rattle.shard_terms.specs.RunLaws.{IsRun, Outcome}
 use Rattle.shard_terms.specs.NextRun.{IsNextRun}
 use Rattle.shard_terms.specs.SweepLaws.{order_is, order_from, list_run, issued_is}

@@ -9,7 +9,7 @@ use Rattle.topic_terms.specs.StoredMessage.{StoredMessage}
 use Rattle.shard_terms.specs.declared.sweep.Sweep.{Sweep}
 use Rattle.shard_terms.specs.Streams.{Streamed, Held}
 use Rattle.shard_terms.specs.Wanted.{is_wanted}
-use Rattle.shard_terms.specs.SweepOrder.{at_cut, is_behind, is_issued_in, Stretch, counted_from, stream_end, window, grown_window, stretches_from, is_in, wanted_in, Run, run_or_else, first_run}
+use Rattle.shard_terms.specs.SweepOrder.{at_cut, is_behind, is_issued_in, Stretch, counted_from, stream_end, window, grown_window, stretches_from, is_in, wanted_in, Run, first_run}
 use Rattle.shard_terms.specs.PlaceLaws.{HasPlace, none_kept}
 use Rattle.shard_terms.specs.HeldLaws.{AreHeld, held_offset, held_one}
 
@@ -108,7 +108,7 @@ stream_below (x ∷ ss) k s e = by (cases_lt x.stream (stream_end ss)) k e (λ k
         subst (λ b. s.stream < (if b then x.stream + 1 else stream_end ss)) (sym (le-leb (stream_end ss) x.stream more)) (omega arith)
 
 first_or_rest : (P : Option Run → Type 0) (sweep : Sweep) (ms : List StoredMessage) (later : Option Run) → (0 < length ms → P (Some (record { messages = ms; sweep = sweep }))) → (ms ≡ [] → P later) →
-    P (run_or_else sweep ms later)
+    P (elim ms as (λ ms. Option Run) [ [] ↦ later | m ∷ ms ↦ Some (record { messages = m ∷ ms; sweep = sweep }) ])
 first_or_rest P sweep [] later here rest = rest refl
 first_or_rest P sweep (m ∷ ms) later here rest = here (omega arith)
 

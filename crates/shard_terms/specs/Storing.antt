@@ -22,10 +22,18 @@ is_awaited_as publisher incarnation id a = is_of publisher incarnation a && (a.i
 abbrev pub awaits : ShardList → List ℕ → ℕ → ℕ → Bool
 awaits list publisher incarnation id = list_any (is_awaited_as publisher incarnation id) list.awaited
 
+-- who published a message, in which session, and its identifier
+abbrev pub triple_of : StoredMessage → Awaited
+triple_of m = record { publisher = m.publisher; incarnation = m.incarnation; id = m.id }
+
+-- a message of QoS 2 that was published so
+abbrev pub is_message_of : Awaited → StoredMessage → Bool
+is_message_of a m = bytes_eq m.publisher a.publisher && ((m.incarnation == a.incarnation) && ((m.qos == 2) && (m.id == a.id)))
+
 -- a message of QoS 2 with an identifier makes that identifier awaited (MQTT 4.3.3)
 abbrev pub becomes_awaited : StoredMessage → List Awaited
 becomes_awaited m =
-    if (m.qos == 2) && nat_lt 0 m.id then record { publisher = m.publisher; incarnation = m.incarnation; id = m.id } ∷ [] else []
+    if (m.qos == 2) && nat_lt 0 m.id then triple_of m ∷ [] else []
 
 -- ---- one operation
 

@@ -7,12 +7,12 @@ use Rattle.topic_terms.specs.Profile.{Profile}
 use Rattle.shard_terms.specs.declared.sweep.Sweep.{Sweep}
 use Rattle.shard_terms.specs.ShardList.{ShardList, newest, oldest_of, floor_of, next_of}
 use Rattle.shard_terms.specs.Streams.{Streamed, Held, held_generations}
-use Rattle.shard_terms.specs.SweepOrder.{at_cut, held_sweep, is_issued_in, is_at, is_issued_by, stretches_from, stretches, first_run, end_of, is_in_order}
+use Rattle.shard_terms.specs.SweepOrder.{at_cut, held_sweep, is_issued_in, is_at, is_issued_by, stretches_from, stretches, first_run, end_in, is_in_order}
 use Rattle.shard_terms.specs.Lists.{IsList}
 use Rattle.shard_terms.specs.ListLaws.{newest_number, not_older}
 use Rattle.shard_terms.specs.OrderLaws.{newest_in_order}
 use Rattle.shard_terms.specs.PlaceLaws.{HasPlace, any_place, none_places}
-use Rattle.shard_terms.specs.HeldLaws.{AreHeld, held_place, held_number, streamed_one, end_is, end_gone, list_held, held_long}
+use Rattle.shard_terms.specs.HeldLaws.{AreHeld, held_place, held_number, streamed_one, end_of, end_by_cuts, end_is, end_gone, list_held, held_long}
 use Rattle.shard_terms.specs.RunLaws.{Outcome, alike_itself, generations_run}
 
 -- ---- a sweep in order
@@ -25,7 +25,7 @@ pub record InOrder (profile : Profile) (list : ShardList) (start : ℕ) (sweep :
   pub end : sweep.target ≤ end_of (held_generations profile list) (floor_of list) sweep.generation
 
 pub order_is : (profile : Profile) (list : ShardList) (start : ℕ) (sweep : Sweep) → is_in_order profile list start sweep ≡ true → InOrder profile list start sweep
-order_is profile list start sweep e = by (end_of (held_generations profile list) (floor_of list) sweep.generation) refl e
+order_is profile list start sweep e = by (end_in list list.cuts sweep.generation) (sym (end_by_cuts profile list list.cuts sweep.generation)) e
   where
     by : (end : ℕ) → end_of (held_generations profile list) (floor_of list) sweep.generation ≡ end
         → (leb sweep.generation (newest list).number && (leb start sweep.base && (leb sweep.base sweep.position && (leb sweep.position sweep.target && leb sweep.target end)))) ≡ true
@@ -45,14 +45,15 @@ order_is profile list start sweep e = by (end_of (held_generations profile list)
 
 pub order_from : (profile : Profile) (list : ShardList) (start : ℕ) (sweep : Sweep) → InOrder profile list start sweep → is_in_order profile list start sweep ≡ true
 order_from profile list start sweep is =
-    let end = end_of (held_generations profile list) (floor_of list) sweep.generation in
+    let end = end_in list list.cuts sweep.generation in
     and_from (leb sweep.generation (newest list).number) (leb start sweep.base && (leb sweep.base sweep.position && (leb sweep.position sweep.target && leb sweep.target end)))
     (le-leb sweep.generation (newest list).number is.generation)
     (and_from (leb start sweep.base) (leb sweep.base sweep.position && (leb sweep.position sweep.target && leb sweep.target end))
     (le-leb start sweep.base is.from)
     (and_from (leb sweep.base sweep.position) (leb sweep.position sweep.target && leb sweep.target end)
     (le-leb sweep.base sweep.position is.base)
-    (and_from (leb sweep.position sweep.target) (leb sweep.target end) (le-leb sweep.position sweep.target is.position) (le-leb sweep.target end is.end))))
+    (and_from (leb sweep.position sweep.target) (leb sweep.target end) (le-leb sweep.position sweep.target is.position)
+    (le-leb sweep.target end (subst (λ n. sweep.target ≤ n) (sym (end_by_cuts profile list list.cuts sweep.generation)) is.end)))))
 
 -- ---- the generations from a number on
 

@@ -6,7 +6,7 @@ use Rattle.topic_terms.specs.Profile.{Profile}
 use Rattle.topic_terms.specs.StoredMessage.{StoredMessage}
 use Rattle.shard_terms.specs.declared.sweep.Sweep.{Sweep}
 use Rattle.shard_terms.specs.ShardList.{ShardList, Cut, newest, oldest_of, floor_of, next_of}
-use Rattle.shard_terms.specs.Streams.{Streamed, Held, held_generations}
+use Rattle.shard_terms.specs.Streams.{Streamed, Held, held_generations, end_before}
 use Rattle.shard_terms.specs.Wanted.{is_wanted}
 
 -- ---- where a sweep stands
@@ -99,14 +99,14 @@ pub record Run : Type 0 where
   pub messages : List StoredMessage
   pub sweep : Sweep
 
-abbrev pub run_or_else : Sweep → List StoredMessage → Option Run → Option Run
-run_or_else sweep [] later = later
-run_or_else sweep (m ∷ ms) later = Some (record { messages = m ∷ ms; sweep = sweep })
-
--- the first of some stretches that has a wanted message
+-- the first of some stretches that has a wanted message; the later ones wait until it is known to have none
 abbrev pub first_run : List (List ℕ) → ℕ → List Stretch → Option Run
 first_run wish start [] = None
-first_run wish start (stretch ∷ rest) = run_or_else stretch.sweep (wanted_in wish start stretch) (first_run wish start rest)
+first_run wish start (stretch ∷ rest) =
+    elim (wanted_in wish start stretch) as (λ ms. Option Run) [
+      [] ↦ first_run wish start rest
+    | m ∷ ms ↦ Some (record { messages = m ∷ ms; sweep = stretch.sweep })
+    ]
 
 abbrev pub at_most : ℕ → Option Run → Option Run
 at_most zero run = None
@@ -125,10 +125,10 @@ sweep_after sweep (m ∷ n ∷ ms) = sweep_after sweep (n ∷ ms)
 
 -- ---- a sweep in order
 
--- the end of a sweep's generation as a list shows it: where the next one begins, or the list ends; the floor where it is gone
-abbrev pub end_of : List Held → ℕ → ℕ → ℕ
-end_of [] floor number = floor
-end_of (g ∷ held) floor number = if g.cut.number == number then g.end else end_of held floor number
+-- where the generation with a number ends, as the list shows it; the floor where it is gone
+abbrev pub end_in : ShardList → List Cut → ℕ → ℕ
+end_in list [] number = floor_of list
+end_in list (cut ∷ cuts) number = if cut.number == number then end_before list cuts else end_in list cuts number
 
 -- Its generation isn't later than the newest, and the subscription's start, its base, its position, its target and the generation's
 -- end don't fall.
@@ -138,4 +138,4 @@ is_in_order profile list start sweep =
     && (nat_le start sweep.base
     && (nat_le sweep.base sweep.position
     && (nat_le sweep.position sweep.target
-    && nat_le sweep.target (end_of (held_generations profile list) (floor_of list) sweep.generation))))
+    && nat_le sweep.target (end_in list list.cuts sweep.generation))))

@@ -11,11 +11,12 @@ use Rattle.session_terms.specs.Acting.{issued_session}
 use Rattle.turn_terms.specs.PlainConnection.{rest_of}
 use Rattle.turn_terms.specs.Batch.{pump_limit, cut_run, next1_of, next2_of}
 use Rattle.turn_terms.specs.Pump.{issues_of}
-use Rattle.turn_terms.specs.MayIssue.{Issuing, reader_of, wanted_by, was_issued, Stands}
+use Rattle.shard_terms.specs.PlaceLaws.{HasPlace}
+use Rattle.turn_terms.specs.MayIssue.{Issuing, reader_of, wanted_by, was_issued}
 
 -- a wanted message was issued exactly where the sweep counts it as issued
 abbrev pub CountsIssued : Profile → Issuing → Sweep → Type 0
-CountsIssued profile i sweep = (w : StoredMessage) → Stands w (wanted_by i) → was_issued i w.offset ≡ is_issued_by profile i.list sweep w.offset
+CountsIssued profile i sweep = (w : StoredMessage) → HasPlace (wanted_by i) w → was_issued i w.offset ≡ is_issued_by profile i.list sweep w.offset
 
 -- A run comes next: the list is in order, the subscription is live, and nothing is left to be sent again; the sweep is in order and
 -- counts what was issued; and the run is the next one, of as many messages as may be issued.

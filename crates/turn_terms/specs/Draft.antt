@@ -12,7 +12,7 @@ use Rattle.turn_terms.specs.PlainConnection.{PlainConnection, connection_of}
 use Rattle.turn_terms.specs.Step.{Setting, is_nothing}
 use Rattle.turn_terms.specs.ConnectStep.{refusing}
 use Rattle.turn_terms.specs.Worker.{Worker, Item, Answer, Answers, Accepts, Delivers, Pending, Out, Sent, Closed, setting_of, connection_in, are_sendable}
-use Rattle.turn_terms.specs.WorkerMoves.{WorkerMove, View, BeginCommit, Commit, Emit, OfItem, Unbind, Cause, OfPackets, OfConnect, OfPump, OfTick, OfOwed, Ending, with_reason, silently, worker_step, worker_outs, item_at}
+use Rattle.turn_terms.specs.WorkerMoves.{WorkerMove, View, BeginCommit, Commit, Emit, OfItem, Unbind, Cause, OfPackets, OfConnect, OfPump, OfTick, OfOwed, Ending, with_reason, silently, Stepped, worker_step, worker_outs, item_at}
 use Rattle.turn_terms.specs.Reasons as Reason
 
 -- ---- what stands beside a worker
@@ -90,8 +90,8 @@ pub data Status : Type 0 where
 -- ---- the draft
 
 -- The worker after the moves, the moves and what they put out, what stands beside it, the choices, and the report so far. Of a piece: the
--- publishes of the group that is open, the packets of the record that is open, the publishes that are to be asked one by one, and the
--- tokens that are left.
+-- publishes of the group that is open, the packets of the record that is open and what they have changed so far, the publishes that are to
+-- be asked one by one, and the tokens that are left.
 pub record Draft : Type 0 where
   pub worker : Worker
   pub moves : List WorkerMove
@@ -102,6 +102,7 @@ pub record Draft : Type 0 where
   pub status : Status
   pub group : List PublishFields
   pub acks : List PlainPacket
+  pub stepped : Option Stepped
   pub singly : List PublishFields
   pub rest : List Token
 
@@ -140,6 +141,7 @@ fresh_draft w beside fates report =
       status = Going;
       group = [];
       acks = [];
+      stepped = None;
       singly = [];
       rest = [];
     }

@@ -17,6 +17,7 @@ pub mod Pieces
 pub mod Parts
 pub mod Allowed
 pub mod StepLaws
+pub mod CarriedLaws
 pub mod AllowedLaws
 pub mod DeliveryLaws
 pub mod RisingLaws

@@ -5,6 +5,7 @@ use Rattle.topic_terms.specs.Profile.{Profile}
 use Rattle.topic_terms.specs.StoredMessage.{StoredMessage}
 use Rattle.shard_terms.specs.ShardList.{ShardList}
 use Rattle.shard_terms.specs.Wanted.{wanted, same_topic}
+use Rattle.shard_terms.specs.PlaceLaws.{HasPlace}
 use Rattle.shard_terms.specs.SweepOrder.{is_in_order}
 use Rattle.session_terms.specs.declared.entry.Entry.{Entry}
 use Rattle.session_terms.specs.declared.entry.Kind.{Kind}
@@ -52,13 +53,10 @@ Ascend [] = Unit {0}
 Ascend (w ∷ []) = Unit {0}
 Ascend (w ∷ v ∷ ws) = (w.offset < v.offset) × Ascend (v ∷ ws)
 
-abbrev pub Stands : StoredMessage → List StoredMessage → Type 0
-Stands w ws = (k : ℕ) × (slice_get ws k ≡ Some w)
-
 -- Each is wanted and not issued; and each earlier message of its topic that is wanted was issued, or stands before it.
 abbrev pub NoneSkipped : Issuing → List StoredMessage → Type 0
 NoneSkipped i ws =
-    (place : ℕ) (w earlier : StoredMessage) → slice_get ws place ≡ Some w → Stands earlier (wanted_by i) → earlier.offset < w.offset →
+    (place : ℕ) (w earlier : StoredMessage) → slice_get ws place ≡ Some w → HasPlace (wanted_by i) earlier → earlier.offset < w.offset →
     same_topic earlier.topic w.topic ≡ true →
     (was_issued i earlier.offset ≡ true) ⊎ ((before : ℕ) × (before < place) × (slice_get ws before ≡ Some earlier))
 
@@ -73,7 +71,7 @@ pub record MayIssue (profile : Profile) (i : Issuing) (b : Issues) (ws : List St
   pub entries : b.entries ≡ entries_from i.now (reader_of i) (next1_of i.session) (next2_of i.session) ws
   pub some : 0 < length ws
   pub ascending : Ascend ws
-  pub are_wanted : (k : ℕ) (w : StoredMessage) → slice_get ws k ≡ Some w → Stands w (wanted_by i)
+  pub are_wanted : (k : ℕ) (w : StoredMessage) → slice_get ws k ≡ Some w → HasPlace (wanted_by i) w
   pub are_new : (k : ℕ) (w : StoredMessage) → slice_get ws k ≡ Some w → was_issued i w.offset ≡ false
   pub in_turn : NoneSkipped i ws
   -- all have expired, or none has

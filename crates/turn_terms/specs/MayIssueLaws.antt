@@ -14,25 +14,26 @@ use Rattle.session_terms.specs.Change.{Issues}
 use Rattle.turn_terms.specs.Delivery.{Reader, has_expired, kind_for}
 use Rattle.turn_terms.specs.PlainConnection.{rest_of}
 use Rattle.turn_terms.specs.Batch.{pump_limit, count1, count2, entries_from, bytes_from, packets_from, next1_of, next2_of, is_alike}
-use Rattle.turn_terms.specs.MayIssue.{Issuing, reader_of, wanted_by, was_issued, Ascend, Stands, MayIssue, same_kind, same_entry, same_entries, with_message, messages_of, are_ascending, left_to_issue, is_first, without_message, come_in_turn, all_alike, is_none_left, may_issue_these, may_issue_as}
+use Rattle.shard_terms.specs.PlaceLaws.{HasPlace}
+use Rattle.turn_terms.specs.MayIssue.{Issuing, reader_of, wanted_by, was_issued, Ascend, MayIssue, same_kind, same_entry, same_entries, with_message, messages_of, are_ascending, left_to_issue, is_first, without_message, come_in_turn, all_alike, is_none_left, may_issue_these, may_issue_as}
 use Rattle.turn_terms.specs.RisingLaws.{stands_cases, behind, in_front, same_offset, AllIn, stands_nowhere, ascend_behind, above, one_offset, filter_within, filter_has, filter_ascends, NoneEarlier, none_earlier, has_first, comes_first, without_within, without_others, without_ascends, without_it}
 
 -- ---- taking one after another
 
 module _ (issued : ℕ → Bool) (all : List StoredMessage) (asc : Ascend all) where
   abbrev IsKnown : List StoredMessage → List StoredMessage → StoredMessage → Type 0
-  IsKnown done left v = (issued v.offset ≡ true) ⊎ (Stands v done ⊎ Stands v left)
+  IsKnown done left v = (issued v.offset ≡ true) ⊎ (HasPlace done v ⊎ HasPlace left v)
 
   abbrev AreNew : List StoredMessage → Type 0
-  AreNew ws = (v : StoredMessage) → Stands v ws → issued v.offset ≡ false
+  AreNew ws = (v : StoredMessage) → HasPlace ws v → issued v.offset ≡ false
 
   -- what is left of the messages of a list: those that weren't issued and weren't taken
   record IsLeft (done left : List StoredMessage) : Type 0 where
     ascends : Ascend left
     within : AllIn left all
     new : AreNew left
-    apart : (v : StoredMessage) → Stands v left → Stands v done → ⊥
-    known : (v : StoredMessage) → Stands v all → IsKnown done left v
+    apart : (v : StoredMessage) → HasPlace left v → HasPlace done v → ⊥
+    known : (v : StoredMessage) → HasPlace all v → IsKnown done left v
 
   abbrev not_issued : StoredMessage → Bool
   not_issued w = not (issued w.offset)
@@ -46,11 +47,11 @@ module _ (issued : ℕ → Bool) (all : List StoredMessage) (asc : Ascend all) w
     known = λ v s. by v s (issued v.offset) refl;
   }
     where
-      by : (v : StoredMessage) → Stands v all → (b : Bool) → issued v.offset ≡ b → IsKnown [] (filter not_issued all) v
+      by : (v : StoredMessage) → HasPlace all v → (b : Bool) → issued v.offset ≡ b → IsKnown [] (filter not_issued all) v
       by v s true is = inl is
       by v s false is = inr (inr (filter_has not_issued all v s (not_from_false (issued v.offset) is)))
 
-  one_less : (done left : List StoredMessage) (w : StoredMessage) → Stands w all → IsLeft done left → IsLeft (w ∷ done) (without_message w left)
+  one_less : (done left : List StoredMessage) (w : StoredMessage) → HasPlace all w → IsLeft done left → IsLeft (w ∷ done) (without_message w left)
   one_less done left w at l = record {
     ascends = without_ascends w left l.ascends;
     within = λ v s. l.within v (without_within w left v s);
@@ -77,15 +78,15 @@ module _ (issued : ℕ → Bool) (all : List StoredMessage) (asc : Ascend all) w
   -- each earlier message of a topic was issued, was taken, or stands before
   abbrev ComesBehind : List StoredMessage → List StoredMessage → Type 0
   ComesBehind done ws =
-      (place : ℕ) (w earlier : StoredMessage) → slice_get ws place ≡ Some w → Stands earlier all → earlier.offset < w.offset → same_topic earlier.topic w.topic ≡ true →
-      (issued earlier.offset ≡ true) ⊎ (Stands earlier done ⊎ StandsBefore earlier ws place)
+      (place : ℕ) (w earlier : StoredMessage) → slice_get ws place ≡ Some w → HasPlace all earlier → earlier.offset < w.offset → same_topic earlier.topic w.topic ≡ true →
+      (issued earlier.offset ≡ true) ⊎ (HasPlace done earlier ⊎ StandsBefore earlier ws place)
 
   turn_tells : (done left ws : List StoredMessage) → IsLeft done left → AllIn ws all → come_in_turn left ws ≡ true →
       AreNew ws × ComesBehind done ws
   turn_tells done left [] l within is = (λ v s. absurd (stands_nowhere v s), λ place w earlier e. absurd (none-some w e))
   turn_tells done left (w ∷ ws) l within is =
       let both = and_parts (is_first w left) (come_in_turn (without_message w left) ws) is in
-      let at : Stands w all = within w (0, refl) in
+      let at : HasPlace all w = within w (0, refl) in
       let less = one_less done left w at l in
       let rest = turn_tells (w ∷ done) (without_message w left) ws less (λ v s. within v (behind v w ws s)) both.1 in
       (new both.0 rest.0, in_turn both.0 rest.1)
@@ -122,10 +123,10 @@ module _ (issued : ℕ → Bool) (all : List StoredMessage) (asc : Ascend all) w
           ]
 
   turn_holds : (done left ws : List StoredMessage) → IsLeft done left → Ascend ws → AllIn ws all → AreNew ws →
-      ((v : StoredMessage) → Stands v ws → Stands v done → ⊥) → ComesBehind done ws → come_in_turn left ws ≡ true
+      ((v : StoredMessage) → HasPlace ws v → HasPlace done v → ⊥) → ComesBehind done ws → come_in_turn left ws ≡ true
   turn_holds done left [] l rising within new apart turn = refl
   turn_holds done left (w ∷ ws) l rising within new apart turn =
-      let here : Stands w (w ∷ ws) = (0, refl) in
+      let here : HasPlace (w ∷ ws) w = (0, refl) in
       let at = within w here in
       let first = comes_first w left l.ascends (is_left (l.known w at)) none in
       let less = one_less done left w at l in
@@ -134,7 +135,7 @@ module _ (issued : ℕ → Bool) (all : List StoredMessage) (asc : Ascend all) w
       let rest = turn_holds (w ∷ done) (without_message w left) ws less (ascend_behind w ws rising) rest_within rest_new not_taken later in
       (λ i. first i && rest i)
     where
-      is_left : IsKnown done left w → Stands w left
+      is_left : IsKnown done left w → HasPlace left w
       is_left (inl is) = absurd (false≢true (sym (new w (0, refl)) ∙ is))
       is_left (inr (inl d)) = absurd (apart w (0, refl) d)
       is_left (inr (inr s)) = s
@@ -149,7 +150,7 @@ module _ (issued : ℕ → Bool) (all : List StoredMessage) (asc : Ascend all) w
             ]
           ]
 
-      not_taken : (v : StoredMessage) → Stands v ws → Stands v (w ∷ done) → ⊥
+      not_taken : (v : StoredMessage) → HasPlace ws v → HasPlace (w ∷ done) v → ⊥
       not_taken v s t =
           elim (stands_cases v w done t) [
             | inl f ↦
@@ -169,7 +170,7 @@ module _ (issued : ℕ → Bool) (all : List StoredMessage) (asc : Ascend all) w
             ]
           ]
         where
-          before : (k : ℕ) → k < suc place → slice_get (w ∷ ws) k ≡ Some earlier → (issued earlier.offset ≡ true) ⊎ (Stands earlier (w ∷ done) ⊎ StandsBefore earlier ws place)
+          before : (k : ℕ) → k < suc place → slice_get (w ∷ ws) k ≡ Some earlier → (issued earlier.offset ≡ true) ⊎ (HasPlace (w ∷ done) earlier ⊎ StandsBefore earlier ws place)
           before zero less f = inr (inl (0, f))
           before (suc k) less f = inr (inr (k, omega arith, f))
 
@@ -178,11 +179,11 @@ module _ (issued : ℕ → Bool) (all : List StoredMessage) (asc : Ascend all) w
 abbrev has_offset : ℕ → StoredMessage → Bool
 has_offset offset w = eqb w.offset offset
 
-messages_stand : (all : List StoredMessage) (es : List Entry) (w : StoredMessage) → Stands w (messages_of all es) → Stands w all
+messages_stand : (all : List StoredMessage) (es : List Entry) (w : StoredMessage) → HasPlace (messages_of all es) w → HasPlace all w
 messages_stand all [] w s = absurd (stands_nowhere w s)
 messages_stand all (e ∷ es) w s = by (find (has_offset e.offset) all) refl s (messages_stand all es w)
   where
-    by : (o : Option StoredMessage) → find (has_offset e.offset) all ≡ o → Stands w (with_message o (messages_of all es)) → (Stands w (messages_of all es) → Stands w all) → Stands w all
+    by : (o : Option StoredMessage) → find (has_offset e.offset) all ≡ o → HasPlace (with_message o (messages_of all es)) w → (HasPlace (messages_of all es) w → HasPlace all w) → HasPlace all w
     by None is s rest = rest s
     by (Some v) is s rest =
         elim (stands_cases w v (messages_of all es) s) [
@@ -190,11 +191,11 @@ messages_stand all (e ∷ es) w s = by (find (has_offset e.offset) all) refl s (
           | inr t ↦ rest t
         ]
 
-find_it : (all : List StoredMessage) → Ascend all → (m : StoredMessage) → Stands m all → find (has_offset m.offset) all ≡ Some m
+find_it : (all : List StoredMessage) → Ascend all → (m : StoredMessage) → HasPlace all m → find (has_offset m.offset) all ≡ Some m
 find_it [] asc m s = absurd (stands_nowhere m s)
 find_it (u ∷ us) asc m s = by (eqb u.offset m.offset) refl (λ t. find_it us (ascend_behind u us asc) m t)
   where
-    by : (b : Bool) → eqb u.offset m.offset ≡ b → (Stands m us → find (has_offset m.offset) us ≡ Some m) → cond b (Some u) (find (has_offset m.offset) us) ≡ Some m
+    by : (b : Bool) → eqb u.offset m.offset ≡ b → (HasPlace us m → find (has_offset m.offset) us ≡ Some m) → cond b (Some u) (find (has_offset m.offset) us) ≡ Some m
     by true here rest = ap (λ (x : StoredMessage). Some x) (one_offset (u ∷ us) asc u m (0, refl) s (eqb-true u.offset m.offset here))
     by false here rest =
         elim (stands_cases m u us s) [
@@ -292,7 +293,7 @@ module _ (now : ℕ) where
   abbrev as_first : Bool → StoredMessage → Bool
   as_first b v = is_alike b (has_expired now v)
 
-  alike_each : (b : Bool) (ws : List StoredMessage) → list_all (as_first b) ws ≡ true → (v : StoredMessage) → Stands v ws → has_expired now v ≡ b
+  alike_each : (b : Bool) (ws : List StoredMessage) → list_all (as_first b) ws ≡ true → (v : StoredMessage) → HasPlace ws v → has_expired now v ≡ b
   alike_each b [] e v s = absurd (stands_nowhere v s)
   alike_each b (w ∷ ws) e v s =
       let both = and_parts (as_first b w) (list_all (as_first b) ws) e in
@@ -301,25 +302,25 @@ module _ (now : ℕ) where
         | inr t ↦ alike_each b ws both.1 v t
       ]
 
-  alike_all : (b : Bool) (ws : List StoredMessage) → ((v : StoredMessage) → Stands v ws → has_expired now v ≡ b) → list_all (as_first b) ws ≡ true
+  alike_all : (b : Bool) (ws : List StoredMessage) → ((v : StoredMessage) → HasPlace ws v → has_expired now v ≡ b) → list_all (as_first b) ws ≡ true
   alike_all b [] each = refl
   alike_all b (w ∷ ws) each =
       let first = alike_same b (has_expired now w) (sym (each w (0, refl))) in
       let rest = alike_all b ws (λ v s. each v (behind v w ws s)) in
       (λ i. first i && rest i)
 
-  alike_tells : (ws : List StoredMessage) → all_alike now ws ≡ true → (w v : StoredMessage) → Stands w ws → Stands v ws → has_expired now w ≡ has_expired now v
+  alike_tells : (ws : List StoredMessage) → all_alike now ws ≡ true → (w v : StoredMessage) → HasPlace ws w → HasPlace ws v → has_expired now w ≡ has_expired now v
   alike_tells [] e w v s t = absurd (stands_nowhere w s)
   alike_tells (u ∷ us) e w v s t = by w s ∙ sym (by v t)
     where
-      by : (x : StoredMessage) → Stands x (u ∷ us) → has_expired now x ≡ has_expired now u
+      by : (x : StoredMessage) → HasPlace (u ∷ us) x → has_expired now x ≡ has_expired now u
       by x at =
           elim (stands_cases x u us at) [
             | inl f ↦ ap (has_expired now) (sym f)
             | inr r ↦ alike_each (has_expired now u) us e x r
           ]
 
-  alike_holds : (ws : List StoredMessage) → ((w v : StoredMessage) → Stands w ws → Stands v ws → has_expired now w ≡ has_expired now v) → all_alike now ws ≡ true
+  alike_holds : (ws : List StoredMessage) → ((w v : StoredMessage) → HasPlace ws w → HasPlace ws v → has_expired now w ≡ has_expired now v) → all_alike now ws ≡ true
   alike_holds [] each = refl
   alike_holds (u ∷ us) each = alike_all (has_expired now u) us (λ v s. each v u (behind v u us s) (0, refl))
 

@@ -15,7 +15,7 @@ use Rattle.turn_terms.specs.PlainConnection.{PlainConnection, no_effects}
 use Rattle.turn_terms.specs.Resend.{passed1, passed2}
 use Rattle.turn_terms.specs.SessionStep as Session
 use Rattle.turn_terms.specs.SessionStep.{Planned, session_step}
-use Rattle.turn_terms.specs.Step.{Setting, Outcome, reply, replies, Step, idle, replying, closing, closing_silently, breaking}
+use Rattle.turn_terms.specs.Step.{Setting, Outcome, reply, replies, Step, idle, replying, close_with, closing, closing_silently, breaking}
 use Rattle.turn_terms.specs.PublishStep.{publish_step, pubrel_step}
 use Rattle.turn_terms.specs.Reasons as Reason
 
@@ -113,12 +113,10 @@ abbrev pub expiry_after : PlainSession → Option ℕ → ℕ
 expiry_after m (Some expiry) = expiry
 expiry_after m None = m.expiry
 
-abbrev pub closed_changes : ℕ → Option PlainSession → Option ℕ → List Change
-closed_changes now None expiry = []
-closed_changes now (Some m) expiry = part_changes m.client (expiry_after m expiry) now
-
-abbrev pub closed_step : Setting → PlainSession → Option ℕ → Step
-closed_step s m expiry = record idle { changes = closed_changes s.now (Some m) expiry }
+-- the session that it was bound to is owed its end; nothing where that is gone
+abbrev pub closed_step : ℕ → Option PlainSession → Option ℕ → Step
+closed_step now None expiry = idle
+closed_step now (Some m) expiry = record idle { changes = part_changes m.client (expiry_after m expiry) now }
 
 -- ---- a Tick
 
@@ -142,9 +140,10 @@ overdue now ks = in_order (map (λ (k : PlainConnection). k.number) (filter (is_
 abbrev pub ended_changes : ℕ → Sessions → List Change
 ended_changes now sessions = map (λ (m : PlainSession). change m.client Ended) (filter (is_over now) sessions.list)
 
-abbrev pub tick_step : Setting → Step
-tick_step s =
+-- the connections that were silent for too long are closed, in order of their numbers, and the sessions that are over end
+abbrev pub tick_step : ℕ → List PlainConnection → Sessions → Step
+tick_step now connections sessions =
     record idle {
-      changes = ended_changes s.now s.sessions;
-      closes = map (λ (conn : ℕ). record { connection = conn; reason = Some Reason.keep_alive_timeout; rule = 0 }) (overdue s.now s.connections);
+      changes = ended_changes now sessions;
+      closes = map (λ (conn : ℕ). close_with conn Reason.keep_alive_timeout 0) (overdue now connections);
     }

@@ -16,10 +16,10 @@ use Rattle.mqtt_packet.specs.Packet.{Publish, PublishFields}
 use Rattle.turn_terms.specs.PlainConnection.{PlainConnection, rest_of}
 use Rattle.turn_terms.specs.Pump.{pump_of}
 use Rattle.turn_terms.specs.Resend.{Resent, resent, Again, Publishes, again, pass_changes, issued_packets}
-use Rattle.turn_terms.specs.Step.{Outcome, Kept, IsFull, AwaitsTooMany, Faulted, is_nothing}
-use Rattle.turn_terms.specs.PacketStep.{ended_changes, overdue}
+use Rattle.turn_terms.specs.Step.{Outcome, Kept, IsFull, AwaitsTooMany, Faulted, Close, Step, is_nothing}
+use Rattle.turn_terms.specs.PacketStep.{tick_step}
 use Rattle.turn_terms.specs.Worker.{Worker, Pending, Closed, connection_in, session_in, sessions_of}
-use Rattle.turn_terms.specs.WorkerMoves.{Emit, OfResend, OfPump, OfTick, Settle, by_client, with_reason}
+use Rattle.turn_terms.specs.WorkerMoves.{Emit, OfResend, OfPump, OfTick, Settle, Ending, by_client, silently, with_reason}
 use Rattle.turn_terms.specs.Draft.{Draft, Part, Beside, Todo, Waiting, Failed, Token, Arrival, Opened, Bytes, ClosedByClient, Pump, Tick, ForBodies, ForDrop, After, AfterPublishes, AfterRelease, AfterBodies, AfterDrop, no_report, fresh_draft, part_of, is_going, reading_at, push, views_pushed, not_open, ended_with, own_bound_closed, own_unbound_closed, commit, committed, answered}
 use Rattle.turn_terms.specs.Pieces.{piece_taken, tokens_taken, told, asked}
 use Rattle.turn_terms.specs.Reasons as Reason
@@ -136,16 +136,24 @@ module _ (profile : Profile) (config : Config) (now : ℕ) where
 
   -- ---- a Tick
 
-  abbrev pub overdue_closed : List ℕ → Draft → Draft
-  overdue_closed [] d = d
-  overdue_closed (conn ∷ conns) d = overdue_closed conns (ended_with profile config now conn (with_reason Reason.keep_alive_timeout) d)
+  abbrev pub ending_by : Option ℕ → Ending
+  ending_by None = silently None
+  ending_by (Some reason) = with_reason reason
+
+  abbrev pub closes_made : List Close → Draft → Draft
+  closes_made [] d = d
+  closes_made (close ∷ closes) d = closes_made closes (ended_with profile config now close.connection (ending_by close.reason) d)
+
+  -- what a Tick does over the worker as it stands
+  abbrev pub tick_over : Draft → Step
+  tick_over d = tick_step now d.worker.connections (sessions_of d.worker)
 
   abbrev pub tick_commit_if : Bool → Draft → Draft
   tick_commit_if true d = commit profile config now OfTick OfTick d
   tick_commit_if false d = d
 
   abbrev pub are_over : Draft → Bool
-  are_over d = not (is_nothing (ended_changes now (sessions_of d.worker)))
+  are_over d = not (is_nothing (tick_over d).changes)
 
   -- as many records as the sessions that are over take, behind the owed changes
   abbrev pub tick_commits : ℕ → Draft → Draft
@@ -153,7 +161,7 @@ module _ (profile : Profile) (config : Config) (now : ℕ) where
   tick_commits (suc more) d = tick_commits more (tick_commit_if (are_over d) d)
 
   abbrev pub sessions_ended : Draft → Draft
-  sessions_ended d = tick_commits (length d.worker.owed + length (ended_changes now (sessions_of d.worker))) d
+  sessions_ended d = tick_commits (length d.worker.owed + length (tick_over d).changes) d
 
   -- the shards whose generations this worker drops
   abbrev pub own_shards : Worker → List ℕ
@@ -170,7 +178,7 @@ module _ (profile : Profile) (config : Config) (now : ℕ) where
   -- one generation is never dropped
   abbrev pub ticked : Draft → Draft
   ticked d =
-      let ended = sessions_ended (overdue_closed (overdue now d.worker.connections) d) in
+      let ended = sessions_ended (closes_made (tick_over d).closes d) in
       drops_if (is_going ended.status && nat_lt 1 profile.generations) ended
 
   -- ---- an arrival

@@ -17,7 +17,8 @@ use Rattle.turn_terms.specs.PublishStep.{publish_case, is_asking, publish_group,
 use Rattle.turn_terms.specs.ConnectStep.{connect_refusal, connect_step}
 use Rattle.turn_terms.specs.PacketStep.{packet_step, interval_of}
 use Rattle.turn_terms.specs.Worker.{connection_in, session_in, are_sendable}
-use Rattle.turn_terms.specs.WorkerMoves.{Emit, OfPacket, OfPackets, OfConnect, Bind, TakeOver, Ending, with_reason, silently, Stepped, not_stepped, stepped_all}
+use Rattle.turn_terms.specs.CarriedLaws.{stepped_on}
+use Rattle.turn_terms.specs.WorkerMoves.{Emit, OfPacket, OfPackets, OfConnect, Bind, TakeOver, Ending, with_reason, silently, Stepped, not_stepped}
 use Rattle.turn_terms.specs.Draft.{Draft, Status, Going, Waiting, Ended, Failed, Token, Whole, BadFront, EndOfPiece, Reading, ForGroup, After, AfterPublishes, AfterRelease, is_going, with_framer, push, setting_in, not_open, own_bound_closed, own_unbound_closed, connect_refused, committed, long_closed, answered}
 use Rattle.turn_terms.specs.Reasons as Reason
 
@@ -54,8 +55,10 @@ is_joinable other = false
 module _ (profile : Profile) (config : Config) (now : ℕ) where
   -- ---- the record that is open
 
-  abbrev pub stepped_in : Draft → PlainConnection → PlainSession → Stepped
-  stepped_in d k m = stepped_all (setting_in profile config now d) k d.acks (not_stepped m)
+  -- what its packets have changed so far, of the session that the worker has
+  abbrev pub stepped_or : PlainSession → Option Stepped → Stepped
+  stepped_or m None = not_stepped m
+  stepped_or m (Some st) = st
 
   -- the answer of a packet that asks for nothing and changes nothing
   abbrev pub is_short_answer : PlainConnection → Step → Bool
@@ -85,8 +88,8 @@ module _ (profile : Profile) (config : Config) (now : ℕ) where
       else answered profile config now conn (committed profile config now (OfPackets conn packets) (length st.changes) d)
 
   abbrev pub acks_closed_with : ℕ → Option PlainConnection → Option PlainSession → Draft → Draft
-  acks_closed_with conn (Some k) (Some m) d = record (recorded conn d.acks (stepped_in d k m) d) { acks = [] }
-  acks_closed_with conn k m d = record d { acks = [] }
+  acks_closed_with conn (Some k) (Some m) d = record (recorded conn d.acks (stepped_or m d.stepped) d) { acks = []; stepped = None }
+  acks_closed_with conn k m d = record d { acks = []; stepped = None }
 
   abbrev pub acks_closed_if : Bool → ℕ → Draft → Draft
   acks_closed_if true conn d = d
@@ -186,11 +189,15 @@ module _ (profile : Profile) (config : Config) (now : ℕ) where
   abbrev pub is_full_with : Draft → Stepped → Step → Bool
   is_full_with d st step = not (is_nothing st.changes) && nat_lt profile.changes (length d.worker.owed + (length st.changes + length step.changes))
 
-  abbrev pub joined_to : ℕ → PlainPacket → Draft → Draft
-  joined_to conn packet d = acks_unless profile.joins conn (record d { acks = d.acks ++ packet ∷ [] })
+  abbrev pub joined_to : ℕ → PlainPacket → Stepped → Draft → Draft
+  joined_to conn packet st d = acks_unless profile.joins conn (record d { acks = d.acks ++ packet ∷ []; stepped = Some st })
+
+  abbrev pub joined_with : ℕ → PlainPacket → Option PlainConnection → Option PlainSession → Draft → Draft
+  joined_with conn packet (Some k) (Some m) d = joined_to conn packet (stepped_on (setting_in profile config now d) k packet (stepped_or m d.stepped)) d
+  joined_with conn packet k m d = d
 
   abbrev pub joined_if : Bool → ℕ → PlainPacket → Draft → Draft
-  joined_if true conn packet d = joined_to conn packet d
+  joined_if true conn packet d = joined_with conn packet (connection_in d.worker conn) (session_in d.worker conn) d
   joined_if false conn packet d = d
 
   abbrev pub received_with : ℕ → PlainPacket → Stepped → Step → List Close → Draft → Draft
@@ -202,12 +209,14 @@ module _ (profile : Profile) (config : Config) (now : ℕ) where
   received conn k packet st d =
       let step = packet_step (setting_in profile config now d) k st.session packet [] in received_with conn packet st step step.closes d
 
+  abbrev pub taken_as : Bool → ℕ → PlainConnection → PlainSession → PlainPacket → Draft → Draft
+  taken_as true conn k m packet d = received conn k packet (stepped_or m d.stepped) d
+  taken_as false conn k m packet d = step_done conn packet (packet_step (setting_in profile config now d) k m packet []) d
+
   abbrev pub taken_kind : ℕ → PlainConnection → PlainSession → PlainPacket → Draft → Draft
   taken_kind conn k m (Publish p) d =
       published conn p (is_asking (publish_case (setting_in profile config now d) k.held m p)) (packet_step (setting_in profile config now d) k m (Publish p) []) d
-  taken_kind conn k m packet d =
-      if is_joinable packet then received conn k packet (stepped_in d k m) d
-      else step_done conn packet (packet_step (setting_in profile config now d) k m packet []) d
+  taken_kind conn k m packet d = taken_as (is_joinable packet) conn k m packet d
 
   -- one that goes on with the group needs no case of its own
   abbrev pub taken_if : Bool → ℕ → PlainConnection → PlainSession → PlainPacket → Draft → Draft

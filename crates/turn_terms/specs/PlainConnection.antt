@@ -5,6 +5,7 @@ use Rattle.std.specs.Str.{bytes_eq}
 use Rattle.session_terms.specs.declared.entry.Entry.{Entry}
 use Rattle.session_terms.specs.PlainSession.{PlainSession, Sessions}
 use Rattle.session_terms.specs.Unfinished.{is_finished}
+use Rattle.session_terms.specs.Acting.{changed_if}
 use Rattle.mqtt_props.specs.declared.table.TheConstants.{SESSION_EXPIRY_INTERVAL, RECEIVE_MAXIMUM, MAXIMUM_PACKET_SIZE}
 use Rattle.mqtt_props.specs.declared.prop.Prop.{Prop}
 use Rattle.mqtt_props.specs.Lookup.{first_of, two_in, four_in, or_default}
@@ -81,7 +82,7 @@ without_connection number ks = filter (λ (k : PlainConnection). not (k.number =
 
 abbrev pub on_connection : ℕ → (PlainConnection → PlainConnection) → List PlainConnection → List PlainConnection
 on_connection number f [] = []
-on_connection number f (k ∷ ks) = (if k.number == number then f k else k) ∷ on_connection number f ks
+on_connection number f (k ∷ ks) = changed_if (k.number == number) f k ∷ on_connection number f ks
 
 -- ---- what packets do to it
 

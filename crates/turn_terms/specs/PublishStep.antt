@@ -10,7 +10,7 @@ use Rattle.topic_terms.specs.Texts.{has_many_levels}
 use Rattle.topic_terms.specs.Routing.{shard_of, routed_worker}
 use Rattle.topic_terms.specs.StoredMessage.{StoredMessage}
 use Rattle.shard_terms.specs.ShardList.{ShardList, Awaited, next_of}
-use Rattle.shard_terms.specs.Storing.{Op, Store, Release, Forget, awaits, acts, act_if, is_of, placed}
+use Rattle.shard_terms.specs.Storing.{Op, Store, Release, Forget, awaits, acts, act_if, is_of, placed, triple_of, is_message_of}
 use Rattle.shard_terms.specs.Capacity.{store_size}
 use Rattle.session_terms.specs.PlainSession.{PlainSession, Sessions}
 use Rattle.mqtt_props.specs.declared.table.TheConstants.{MESSAGE_EXPIRY_INTERVAL, TOPIC_ALIAS}
@@ -172,13 +172,7 @@ acked_replies (packet ∷ packets) acked = record { packet = packet; acked = ack
 abbrev pub plain_replies : List PlainPacket → List Reply
 plain_replies packets = acked_replies packets None
 
-abbrev pub is_same_triple : StoredMessage → StoredMessage → Bool
-is_same_triple a b = bytes_eq b.publisher a.publisher && ((b.incarnation == a.incarnation) && ((b.qos == 2) && (b.id == a.id)))
-
 -- the last message with an identifier that is awaited, where it is still held
-abbrev pub has_triple : PlainSession → ℕ → StoredMessage → Bool
-has_triple m id w = bytes_eq w.publisher m.client && ((w.incarnation == m.incarnation) && ((w.qos == 2) && (w.id == id)))
-
 abbrev pub last_of : List StoredMessage → Option StoredMessage
 last_of [] = None
 last_of (w ∷ []) = Some w
@@ -186,7 +180,7 @@ last_of (w ∷ v ∷ ws) = last_of (v ∷ ws)
 
 abbrev pub last_stored : PlainSession → ℕ → Option ShardList → Option StoredMessage
 last_stored m id None = None
-last_stored m id (Some list) = last_of (filter (has_triple m id) list.messages)
+last_stored m id (Some list) = last_of (filter (is_message_of (record { publisher = m.client; incarnation = m.incarnation; id = id })) list.messages)
 
 abbrev pub of_shard : ℕ → Option StoredMessage → Option (ℕ × StoredMessage)
 of_shard shard None = None
@@ -238,7 +232,7 @@ pubrel_step s k m id (outcome ∷ outcomes) = pubrel_by_outcome k id outcome
 -- of a Store: the message as it was kept, or the last one with its triple where that was awaited already
 abbrev pub standing_for : Bool → ShardList → ℕ → StoredMessage → Option StoredMessage
 standing_for true list now w = Some (placed w (next_of list) now)
-standing_for false list now w = last_of (filter (is_same_triple w) list.messages)
+standing_for false list now w = last_of (filter (is_message_of (triple_of w)) list.messages)
 
 -- the message that stands for each Store of a group, over the list before it
 abbrev pub stored_messages : ShardList → List Op → ℕ → List (Option StoredMessage)

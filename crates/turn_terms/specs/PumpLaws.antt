@@ -8,14 +8,14 @@ use Rattle.topic_terms.specs.Profile.{Profile}
 use Rattle.topic_terms.specs.StoredMessage.{StoredMessage}
 use Rattle.shard_terms.specs.declared.sweep.Sweep.{Sweep}
 use Rattle.shard_terms.specs.SweepOrder.{Run, is_issued_by, sweep_after, is_in_order}
-use Rattle.shard_terms.specs.PlaceLaws.{place_taken, place_within, taken_before}
+use Rattle.shard_terms.specs.PlaceLaws.{HasPlace, place_taken, place_within, taken_before}
 use Rattle.shard_terms.specs.NextRun.{IsNextRun}
 use Rattle.shard_terms.specs.NextRunLaws.{next_run_is}
 use Rattle.turn_terms.specs.Delivery.{Reader, kind_for}
 use Rattle.turn_terms.specs.PlainConnection.{rest_of}
 use Rattle.turn_terms.specs.Batch.{pump_limit, entries_from, count1, count2, next1_of, next2_of}
 use Rattle.turn_terms.specs.Pump.{issues_of}
-use Rattle.turn_terms.specs.MayIssue.{Issuing, reader_of, wanted_by, is_issue_of, was_issued, Ascend, Stands, MayIssue}
+use Rattle.turn_terms.specs.MayIssue.{Issuing, reader_of, wanted_by, is_issue_of, was_issued, Ascend, MayIssue}
 use Rattle.turn_terms.specs.Counting.{CountsIssued, ComesNext, taken_of, batch_of, issued_to}
 use Rattle.turn_terms.specs.CutLaws.{IsBatch, batch_is}
 
@@ -78,7 +78,7 @@ module _ (profile : Profile) (i : Issuing) (sweep : Sweep) (run : Run) (counts :
       in_run : (k : ℕ) (w : StoredMessage) → slice_get ws k ≡ Some w → slice_get run.messages k ≡ Some w
       in_run k w e = place_taken batch.front.0 run.messages k w (ap (λ l. slice_get l k) (sym batch.front.1) ∙ e)
 
-      turn : (place : ℕ) (w earlier : StoredMessage) → slice_get ws place ≡ Some w → Stands earlier (wanted_by i) →
+      turn : (place : ℕ) (w earlier : StoredMessage) → slice_get ws place ≡ Some w → HasPlace (wanted_by i) earlier →
           (is_issued_by profile i.list sweep earlier.offset ≡ true) ⊎ ((j : ℕ) × (j < place) × (slice_get run.messages j ≡ Some earlier)) →
           (was_issued i earlier.offset ≡ true) ⊎ ((before : ℕ) × (before < place) × (slice_get ws before ≡ Some earlier))
       turn place w earlier e has (inl issued) = inl (counts earlier has ∙ issued)
@@ -107,7 +107,7 @@ module _ (profile : Profile) (i : Issuing) (sweep : Sweep) (run : Run) (counts :
       subst (λ (s : Sweep). is_in_order profile i.list i.start s ≡ true) (sym last.after) (next.order last.place last.last there)
 
   -- and counts those that were counted, and these
-  counts_behind : (ws : List StoredMessage) (m : StoredMessage) → IsBatch profile i.now (reader_of i) (next1_of i.session) (next2_of i.session) run.messages ws → Stands m (wanted_by i) →
+  counts_behind : (ws : List StoredMessage) (m : StoredMessage) → IsBatch profile i.now (reader_of i) (next1_of i.session) (next2_of i.session) run.messages ws → HasPlace (wanted_by i) m →
       is_issued_by profile i.list (sweep_after run.sweep ws) m.offset ≡ (was_issued i m.offset || list_any (λ (v : StoredMessage). eqb v.offset m.offset) ws)
   counts_behind ws m batch has =
       let last = last_of run.sweep ws batch.some in

@@ -11,7 +11,7 @@ use Rattle.session_terms.specs.PlainSession.{PlainSession, version_numbered}
 use Rattle.session_terms.specs.Change.{Issues}
 use Rattle.turn_terms.specs.PlainConnection.{PlainConnection}
 use Rattle.turn_terms.specs.Pump.{Pair, pairs_of}
-use Rattle.turn_terms.specs.MayIssue.{Issuing, MayIssue, wanted_by, was_issued, Stands}
+use Rattle.turn_terms.specs.MayIssue.{Issuing, MayIssue, wanted_by, was_issued}
 use Rattle.turn_terms.specs.Counting.{CountsIssued, issued_to}
 
 -- a session and its connection at a moment, with a pair of a live subscription and a shard, and this list of the shard
@@ -48,4 +48,4 @@ pub record IsPumped (profile : Profile) (now : ℕ) (m : PlainSession) (k : Plai
 abbrev pub AllIssued : ℕ → PlainSession → PlainConnection → List ShardList → Type 0
 AllIssued now m k lists =
     (p : Pair) (v : Version) (list : ShardList) → HasPlace (pairs_of m) p → slice_get lists p.shard ≡ Some list → version_numbered p.subscription.version m ≡ Some v →
-    (w : StoredMessage) → Stands w (wanted_by (issuing_pair m k now p v list)) → was_issued (issuing_pair m k now p v list) w.offset ≡ true
+    (w : StoredMessage) → HasPlace (wanted_by (issuing_pair m k now p v list)) w → was_issued (issuing_pair m k now p v list) w.offset ≡ true

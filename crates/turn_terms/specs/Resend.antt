@@ -48,10 +48,6 @@ with_rest m lists k =
       passed = filter (λ (e : Entry). is_passed_at_bind m lists e) (unfinished m);
     }
 
-abbrev pub with_rest_of : Option PlainSession → List ShardList → PlainConnection → PlainConnection
-with_rest_of None lists k = k
-with_rest_of (Some m) lists k = with_rest m lists k
-
 -- ---- what an entry gives
 
 -- PUBREL, where it is received; PUBLISH; or nothing, as it is passed over

@@ -174,12 +174,17 @@ unsubscribe_planned m u = unsuback u.id (all_unwished u.filters (answered m))
 
 -- ---- PUBACK, PUBREC, PUBCOMP (MQTT 4.3, 4.6)
 
+-- the first of some numbers that passes a test; those behind it aren't looked at
+abbrev pub first_passing : (ℕ → Bool) → List ℕ → Option ℕ
+first_passing passes [] = None
+first_passing passes (n ∷ ns) = elim (passes n) as (λ is. Option ℕ) [ true ↦ Some n | false ↦ first_passing passes ns ]
+
 -- the unfinished number of a track that has this identifier
 abbrev pub with_id1 : ℕ → PlainSession → Option ℕ
-with_id1 id m = find (λ (n : ℕ). id1 n == id) (numbers1 (unfinished m))
+with_id1 id m = first_passing (λ (n : ℕ). id1 n == id) (numbers1 (unfinished m))
 
 abbrev pub with_id2 : ℕ → PlainSession → Option ℕ
-with_id2 id m = find (λ (n : ℕ). id2 n == id) (numbers2 (unfinished m))
+with_id2 id m = first_passing (λ (n : ℕ). id2 n == id) (numbers2 (unfinished m))
 
 -- the track's next: the least above the mark that wasn't passed over
 abbrev pub is_next : ℕ → ℕ → ℕ → Bool

@@ -17,7 +17,7 @@ use Rattle.turn_terms.specs.Resend.{Resent, resent, resent_connection, with_rest
 use Rattle.turn_terms.specs.Step.{Setting, Outcome, Kept, IsFull, AwaitsTooMany, Faulted, Reply, Step, is_nothing, is_settled, owes_nothing}
 use Rattle.turn_terms.specs.PublishStep.{acked_replies, acknowledged, holding, completed, of_shard}
 use Rattle.turn_terms.specs.ConnectStep.{connect_refusal, connect_step, client_for}
-use Rattle.turn_terms.specs.PacketStep.{packet_step, closed_changes, ended_changes}
+use Rattle.turn_terms.specs.PacketStep.{packet_step, closed_step, tick_step}
 use Rattle.turn_terms.specs.Worker.{Worker, Item, Answer, Answers, Accepts, Delivers, Pending, Note, note, SentAgain, Delivered, Out, Sent, Closed, sessions_of, setting_of, connection_in, session_in, sent_on, sendable, packets_of, acked_by}
 use Rattle.turn_terms.specs.Worker as Worker
 use Rattle.turn_terms.specs.Reasons as Reason
@@ -195,7 +195,7 @@ abbrev pub record_of : Setting → Worker → Cause → Option Pending
 record_of s w (OfPackets conn packets) = packets_record s w conn packets (connection_in w conn) (session_in w conn)
 record_of s w (OfConnect conn c) = connect_record s w conn c (connect_step s conn c)
 record_of s w (OfPump conn b) = pump_record s w conn b (connection_in w conn) (session_in w conn)
-record_of s w OfTick = tick_record s w (ended_changes s.now s.sessions)
+record_of s w OfTick = tick_record s w (tick_step s.now s.connections s.sessions).changes
 record_of s w OfOwed = owed_record s.profile w w.owed
 
 abbrev pub begun_unless : Option Pending → Option Pending → Worker → Worker
@@ -405,7 +405,7 @@ gone conn w = without_items conn (record w { connections = without_connection co
 -- the session that it was bound to is owed its end
 abbrev pub unbound : ℕ → Ending → ℕ → Option PlainConnection → Worker → Worker
 unbound conn ending now None w = w
-unbound conn ending now (Some k) w = record (gone conn w) { owed = w.owed ++ closed_changes now (session_in w conn) ending.expiry }
+unbound conn ending now (Some k) w = record (gone conn w) { owed = w.owed ++ (closed_step now (session_in w conn) ending.expiry).changes }
 
 -- a takeover owes nothing: the client goes on with another connection
 abbrev pub may_take_over : ℕ → List Item → Option PlainConnection → Bool
@@ -432,10 +432,6 @@ module _ (profile : Profile) (config : Config) where
   worker_step w (Bind conn now) = bound_if conn now (find (accepts_on conn) w.due) (connection_in w conn) w
   worker_step w (TakeOver conn) = taken_over_if (may_take_over conn w.due (connection_in w conn)) conn w
   worker_step w (Unbind conn ending now) = unbound conn ending now (connection_in w conn) w
-
-  abbrev pub worker_run : Worker → List WorkerMove → Worker
-  worker_run w [] = w
-  worker_run w (move ∷ moves) = worker_run (worker_step w move) moves
 
   -- ---- what they put out
 

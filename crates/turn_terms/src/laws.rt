@@ -1,4 +1,4 @@
-ghost use Rattle.std.specs.Prelude.{◌≡◌, [], ℕ, Bool, false, List, All, bytes_eq};
+ghost use Rattle.std.specs.Prelude.{◌≡◌, [], ◌∷◌, ◌++◌, ℕ, Bool, false, List, All, bytes_eq};
 ghost use Rattle.topic_terms.specs.Profile.{Profile, Config};
 ghost use Rattle.session_terms.specs.PlainSession.{PlainSession, session_of};
 ghost use Rattle.session_terms.specs.Acting.{act_all};
@@ -7,7 +7,8 @@ ghost use Rattle.turn_terms.specs.PlainConnection.{PlainConnection};
 ghost use Rattle.turn_terms.specs.Step.{Setting, Outcome};
 ghost use Rattle.turn_terms.specs.PacketStep.{packet_step};
 ghost use Rattle.turn_terms.specs.Worker.{Worker};
-ghost use Rattle.turn_terms.specs.WorkerMoves.{WorkerMove, worker_step, worker_outs, worker_acks};
+ghost use Rattle.turn_terms.specs.WorkerMoves.{WorkerMove, worker_step, worker_outs, worker_acks, Stepped, stepped_all};
+ghost use Rattle.turn_terms.specs.CarriedLaws.{stepped_on};
 ghost use Rattle.turn_terms.specs.Allowed.{worker_allows};
 ghost use Rattle.turn_terms.specs.StepLaws.{AreOf};
 
@@ -20,6 +21,14 @@ pub fn a_packet_keeps_to_its_session()
         (outcomes : List Outcome) (other : List ℕ) → bytes_eq m.client other ≡ false →
         session_of other (act_all s.sessions (packet_step s k m packet outcomes).changes)
         ≡ session_of other s.sessions }
+{}
+
+/// A law: what packets of a record change is carried from packet to packet, and needn't be worked out from the first one
+/// again.
+pub fn steps_are_carried()
+    ensures { (s : Setting) (k : PlainConnection) (packets : List PlainPacket)
+        (packet : PlainPacket) (st : Stepped) →
+        stepped_all s k (packets ++ packet ∷ []) st ≡ stepped_on s k packet (stepped_all s k packets st) }
 {}
 
 /// A law: a move of a worker that isn't allowed changes nothing, puts out nothing and acknowledges nothing.

@@ -20,5 +20,5 @@ mod pump_laws;
 
 pub use delivery_laws::delivery_length_is_exact;
 pub use issue_laws::the_test_is_the_relation;
-pub use laws::{a_packet_keeps_to_its_session, only_allowed_moves_move};
+pub use laws::{a_packet_keeps_to_its_session, only_allowed_moves_move, steps_are_carried};
 pub use pump_laws::{a_batch_may_be_issued, counting_stays, what_is_pumped_may_be_issued};

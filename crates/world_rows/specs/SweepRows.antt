@@ -151,9 +151,12 @@ thirty_devices_crash : text_of_script whole (lines (devices 30 ++ codes "look" �
 unfolding running
 thirty_devices_crash = refl
 
--- two hundred devices leave eleven streams, the last one of 190 messages
-two_hundred_devices : text_of_script whole (lines (devices 200 ++ codes "look" ∷ [])) []
-    ≡ lines (devices_text 200 ++ devices_shard 200 ++ devices_worker 200)
+-- two hundred devices leave eleven streams, the last one of 190 messages: ten pumps of one reading each, then 64, 64 and 62
+two_hundred_devices : text_of_script whole
+    (lines (devices 200 ++ a_connects ++ each (λ (k : ℕ). pump_and_ping) 0 13 ++ codes "ack 1" ∷ codes "look" ∷ [])) []
+    ≡ lines (devices_text 200 ++ k1 (codes "1") ∷ readings_one_by_one 10
+    ++ readings 10 64 ++ ponged (codes "1") ∷ readings 74 64 ++ ponged (codes "1") ∷ readings 138 62 ++ ponged (codes "1")
+    ∷ devices_shard 200 ++ devices_worker 200)
 unfolding running
 two_hundred_devices = refl
 

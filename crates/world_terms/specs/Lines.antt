@@ -1,5 +1,6 @@
 -- The lines of a script.
 use Rattle.std.specs.Prelude.{ℕ, ◌+◌, ◌*◌, ◌-◌, Bool, true, false, ◌&&◌, ◌||◌, not, ◌==◌, nat_le, nat_lt, if◌then◌else◌, List, [], ◌∷◌, length, slice_index, codes, Option, Some, None, Result, Ok, Err, ◌≡◌, refl}
+use Rattle.topic_terms.specs.Routing.{is_decimal}
 use Rattle.std.specs.List.{list_all}
 use Rattle.std.specs.Char.{is_ascii_digit}
 use Rattle.std.specs.Str.{bytes_eq}
@@ -25,10 +26,6 @@ pub data Line : Type 0 where
   Look : Line
 
 -- ---- words
-
--- digits without a sign or a leading zero
-abbrev pub is_decimal : List ℕ → Bool
-is_decimal text = nat_le 1 (length text) && (list_all is_ascii_digit text && ((length text == 1) || not (slice_index text 0 == 0x30)))
 
 -- the number that a word is in decimal, if it lies between two
 abbrev pub number_between : ℕ → ℕ → List ℕ → Option ℕ

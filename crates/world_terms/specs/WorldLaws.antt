@@ -7,7 +7,8 @@ use Rattle.topic_terms.specs.Profile.{Profile, Config}
 use Rattle.topic_terms.specs.StoredMessage.{StoredMessage}
 use Rattle.shard_terms.specs.declared.sweep.Sweep.{Sweep}
 use Rattle.shard_terms.specs.ShardList.{ShardList, Awaited, floor_of, next_of, message_at}
-use Rattle.shard_terms.specs.Storing.{is_awaited_as}
+use Rattle.shard_terms.specs.Storing.{is_message_of}
+use Rattle.shard_terms.specs.PlaceLaws.{HasPlace}
 use Rattle.shard_terms.specs.Growing.{HasGrown}
 use Rattle.shard_terms.specs.Lists.{IsList}
 use Rattle.shard_terms.specs.Shards.{IsShard}
@@ -29,11 +30,6 @@ use Rattle.turn_terms.specs.Worker.{Worker, Pending, Noted, SentAgain, Delivered
 use Rattle.turn_terms.specs.Worker as Worker
 use Rattle.world_terms.specs.World.{World, WorldShard, Move, opening_world, after_moves, world_step}
 
--- ---- what is there
-
-abbrev pub Stands : {A : Type 0} → A → List A → Type 0
-Stands x xs = (place : ℕ) × (slice_get xs place ≡ Some x)
-
 -- the world that a list of moves leads to
 abbrev pub reached : Profile → Config → List Move → World
 reached profile config moves = after_moves profile (opening_world config) moves
@@ -48,11 +44,11 @@ possible_sessions k = sessions_of k ∷ k.committed ∷ and_pending k k.pending
 
 -- a session that a worker of this world has, or may find itself with
 abbrev pub HasSession : World → ℕ → Worker → PlainSession → Type 0
-HasSession w place k m = (slice_get w.workers place ≡ Some k) × ((sessions : Sessions) × (Stands sessions (possible_sessions k) × Stands m sessions.list))
+HasSession w place k m = (slice_get w.workers place ≡ Some k) × ((sessions : Sessions) × (HasPlace (possible_sessions k) sessions × HasPlace sessions.list m))
 
 -- where a subscription of it starts in a shard
 abbrev pub StartsAt : PlainSession → Subscription → ℕ → ℕ → Type 0
-StartsAt m s shard start = Stands s m.subscriptions × (slice_get s.starts shard ≡ Some start)
+StartsAt m s shard start = HasPlace m.subscriptions s × (slice_get s.starts shard ≡ Some start)
 
 -- ---- lists
 
@@ -71,7 +67,7 @@ ListsGrow profile config = (moves : List Move) → AreGrown (reached profile con
 pub record AreSeen (w : World) : Type 0 where
   pub starts : (worker shard start : ℕ) (k : Worker) (m : PlainSession) (s : Subscription) (list : ShardList) → HasSession w worker k m →
       StartsAt m s shard start → slice_get k.seen shard ≡ Some list → start ≤ next_of list
-  pub issued : (worker : ℕ) (k : Worker) (m : PlainSession) (e : Entry) (list : ShardList) → HasSession w worker k m → Stands e m.issued →
+  pub issued : (worker : ℕ) (k : Worker) (m : PlainSession) (e : Entry) (list : ShardList) → HasSession w worker k m → HasPlace m.issued e →
       slice_get k.seen e.shard ≡ Some list → e.offset < next_of list
 
 abbrev pub PositionsAreSeen : Profile → Config → Type 0
@@ -98,7 +94,7 @@ PrefixesAreIssued profile config =
 -- A message whose PUBACK or PUBREC was put out is stored, or went with its generation.
 abbrev pub AckedAreKept : Profile → Config → Type 0
 AckedAreKept profile config =
-    (moves : List Move) (shard : ℕ) (message : StoredMessage) (s : WorldShard) → Stands (shard, message) (reached profile config moves).acked_out →
+    (moves : List Move) (shard : ℕ) (message : StoredMessage) (s : WorldShard) → HasPlace (reached profile config moves).acked_out (shard, message) →
     slice_get (reached profile config moves).shards shard ≡ Some s →
     (message_at s.shard.stored message.offset ≡ Some message) ⊎ (message.offset < floor_of s.shard.stored)
 
@@ -135,7 +131,7 @@ is_left m taken e = list_any (same_entry e) taken || not (is_finished m e)
 abbrev pub RestIsUnfinished : Profile → Config → Type 0
 RestIsUnfinished profile config =
     (moves : List Move) (worker : ℕ) (w : Worker) (k : PlainConnection) (m : PlainSession) → slice_get (reached profile config moves).workers worker ≡ Some w →
-    Stands k w.connections → Stands m (sessions_of w).list → is_bound_to k m ≡ true →
+    HasPlace w.connections k → HasPlace (sessions_of w).list m → is_bound_to k m ≡ true →
     filter (is_left m (taken_from w k)) (rest_at_bind w k) ≡ taken_from w k ++ rest_of m k
 
 abbrev pub packets_again : Again → List PlainPacket
@@ -158,7 +154,7 @@ pub record AreAgain (w : World) (n : Note) (entries : List Entry) (packets : Lis
 abbrev pub ResendsAreTheSame : Profile → Config → Type 0
 ResendsAreTheSame profile config =
     (moves : List Move) (worker : ℕ) (w : Worker) (n : Note) (entries : List Entry) (packets : List PlainPacket) →
-    slice_get (reached profile config moves).workers worker ≡ Some w → Stands n w.history → n.noted ≡ SentAgain entries packets →
+    slice_get (reached profile config moves).workers worker ≡ Some w → HasPlace w.history n → n.noted ≡ SentAgain entries packets →
     AreAgain (reached profile config moves) n entries packets
 
 -- No entry is sent again on a connection behind the first batch that was delivered on it.
@@ -174,7 +170,7 @@ is_bound n = elim (n.noted) as (λ x. Bool) [ Worker.Bound again passed ↦ true
 abbrev pub ResendsComeFirst : Profile → Config → Type 0
 ResendsComeFirst profile config =
     (moves : List Move) (worker i j : ℕ) (w : Worker) (k : PlainConnection) (first later : Note) → slice_get (reached profile config moves).workers worker ≡ Some w →
-    Stands k w.connections → slice_get (notes_of w k) i ≡ Some first → slice_get (notes_of w k) j ≡ Some later → i < j → is_delivery first ≡ true →
+    HasPlace w.connections k → slice_get (notes_of w k) i ≡ Some first → slice_get (notes_of w k) j ≡ Some later → i < j → is_delivery first ≡ true →
     is_again later ≡ true → (between : ℕ) × ((i < between) × ((between < j) × ((b : Note) × ((slice_get (notes_of w k) between ≡ Some b) × (is_bound b ≡ true)))))
 
 -- ---- QoS 0
@@ -210,15 +206,12 @@ AllAreDistinct profile config =
 
 -- ---- QoS 2 is stored once
 
-abbrev pub has_triple : Awaited → StoredMessage → Bool
-has_triple a m = bytes_eq m.publisher a.publisher && ((m.incarnation == a.incarnation) && ((m.qos == 2) && (m.id == a.id)))
-
 -- While an identifier is awaited no move stores a message of it: each message of it that is stored behind the move was stored before.
 abbrev pub StoredOnce : Profile → Config → Type 0
 StoredOnce profile config =
     (moves : List Move) (move : Move) (shard : ℕ) (s later : WorldShard) (a : Awaited) (m : StoredMessage) →
     slice_get (reached profile config moves).shards shard ≡ Some s → slice_get (world_step profile (reached profile config moves) move).shards shard ≡ Some later →
-    Stands a s.shard.stored.awaited → Stands m later.shard.stored.messages → has_triple a m ≡ true → Stands m s.shard.stored.messages
+    HasPlace s.shard.stored.awaited a → HasPlace later.shard.stored.messages m → is_message_of a m ≡ true → HasPlace s.shard.stored.messages m
 
 -- ---- what an induction needs
 
