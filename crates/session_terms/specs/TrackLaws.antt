@@ -20,14 +20,6 @@ pub by_number2 : (es : List Entry) → numbers2 es ≡ numbers_by number2 es
 by_number2 [] = refl
 by_number2 (e ∷ es) = ap (with_number (number2 e.kind)) (by_number2 es)
 
-pub by-append : (number : Kind → Option ℕ) (es more : List Entry) → numbers_by number (es ++ more) ≡ numbers_by number es ++ numbers_by number more
-by-append number [] more = refl
-by-append number (e ∷ es) more = ap (with_number (number e.kind)) (by-append number es more) ∙ by (number e.kind)
-  where
-    by : (n : Option ℕ) → with_number n (numbers_by number es ++ numbers_by number more) ≡ with_number n (numbers_by number es) ++ numbers_by number more
-    by None = refl
-    by (Some n) = refl
-
 -- ---- numbers that go up between two
 
 abbrev pub GoUp : ℕ → ℕ → List ℕ → Type 0
