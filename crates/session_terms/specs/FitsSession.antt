@@ -6,7 +6,7 @@ use Rattle.topic_terms.specs.Levels.{text_of_levels}
 use Rattle.topic_terms.specs.Texts.{filter_refusal}
 use Rattle.session_terms.specs.declared.entry.Entry.{Entry}
 use Rattle.session_terms.specs.Entry.{numbers1, numbers2}
-use Rattle.session_terms.specs.PlainSession.{PlainSession, Subscription, Sessions, session_of, subscription_numbered, next_subscription, next_version, issued1_of, issued2_of, in_use, is_done}
+use Rattle.session_terms.specs.PlainSession.{PlainSession, Subscription, Sessions, session_of, subscription_numbered, next_subscription, next_version, issued1_of, issued2_of, in_use, is_done, left_of}
 use Rattle.session_terms.specs.Unfinished.{kept_subscriptions}
 use Rattle.session_terms.specs.Change.{Change, Effect, Began, Ended, Bound, Parted, Subscribed, Replaced, Unsubscribed, Issued, Acked, Received, Done, Passed, Subscribes, Replaces, Issues, Passes}
 use Rattle.session_terms.specs.Acting.{act}
@@ -59,7 +59,12 @@ abbrev pub is_entry_of : PlainSession → Issues → Entry → Bool
 is_entry_of m i e =
     (e.subscription == i.subscription) && ((e.shard == i.shard) && has_version e.version (subscription_numbered i.subscription m))
 
--- some entries, of the subscription's present version in one of its shards, with ascending offsets, and numbers that go on
+-- a track has so many numbers left
+abbrev pub has_left : ℕ → List ℕ → Bool
+has_left issued numbers = nat_le (length numbers) (left_of issued)
+
+-- some entries, of the subscription's present version in one of its shards, with ascending offsets, and numbers that go on, none of them
+-- the greatest of eight bytes
 abbrev pub issues : PlainSession → Issues → Bool
 issues m i =
     is_live m i.subscription
@@ -67,7 +72,8 @@ issues m i =
     && (nat_lt 0 (length i.entries)
     && (list_all (is_entry_of m i) i.entries
     && (ascend i.entries
-    && (go_on (issued1_of m) (numbers1 i.entries) && go_on (issued2_of m) (numbers2 i.entries))))))
+    && ((go_on (issued1_of m) (numbers1 i.entries) && go_on (issued2_of m) (numbers2 i.entries))
+    && (has_left (issued1_of m) (numbers1 i.entries) && has_left (issued2_of m) (numbers2 i.entries)))))))
 
 -- above a mark, and not past the last that was issued
 abbrev pub is_between : ℕ → ℕ → ℕ → Bool

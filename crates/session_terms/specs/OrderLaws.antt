@@ -9,8 +9,9 @@ use Rattle.session_terms.specs.declared.entry.Version.{Version}
 use Rattle.session_terms.specs.Entry.{with_number, number1, number2, numbers1, numbers2}
 use Rattle.session_terms.specs.PlainSession.{PlainSession, Subscription, begun_session, issued1_of, issued2_of, is_done, subscription_numbered}
 use Rattle.session_terms.specs.Change.{Effect, Began, Ended, Bound, Parted, Subscribed, Replaced, Unsubscribed, Issued, Acked, Received, Done, Passed, Issues, Passes}
+use Rattle.session_terms.specs.TrackLaws.{numbers1-append, numbers2-append}
 use Rattle.session_terms.specs.Acting.{numbers_from, changed_session, issued_session, passed_session}
-use Rattle.session_terms.specs.FitsSession.{go_on, ascend, is_live, has_sweep, is_entry_of, issues, is_between, passes, suits}
+use Rattle.session_terms.specs.FitsSession.{go_on, ascend, has_left, is_live, has_sweep, is_entry_of, issues, is_between, passes, suits}
 use Rattle.session_terms.specs.Orders.{HasNumbers}
 use Rattle.session_terms.specs.DoneLaws.{has}
 
@@ -54,25 +55,15 @@ number_of_from start (suc count) n h = by (or_cases (start == n) (has (numbers_f
 
 -- ---- changes
 
-with_both : (number : Option ℕ) (ns more : List ℕ) → with_number number (ns ++ more) ≡ with_number number ns ++ more
-with_both None ns more = refl
-with_both (Some n) ns more = refl
-
-numbers1-append : (es more : List Entry) → numbers1 (es ++ more) ≡ numbers1 es ++ numbers1 more
-numbers1-append [] more = refl
-numbers1-append (e ∷ es) more = ap (with_number (number1 e.kind)) (numbers1-append es more) ∙ with_both (number1 e.kind) (numbers1 es) (numbers1 more)
-
-numbers2-append : (es more : List Entry) → numbers2 (es ++ more) ≡ numbers2 es ++ numbers2 more
-numbers2-append [] more = refl
-numbers2-append (e ∷ es) more = ap (with_number (number2 e.kind)) (numbers2-append es more) ∙ with_both (number2 e.kind) (numbers2 es) (numbers2 more)
-
 same_tracks : (m : PlainSession) (expiry : ℕ) (parted : Option ℕ) (subscriptions : List Subscription) (versions : List Version) →
     HasNumbers m → HasNumbers (record m { expiry = expiry; parted = parted; subscriptions = subscriptions; versions = versions })
 same_tracks m expiry parted subscriptions versions h = record { track1 = h.track1; track2 = h.track2; acked = h.acked; received = h.received; done = h.done }
 
 after_issued : (m : PlainSession) (i : Issues) → issues m i ≡ true → HasNumbers m → HasNumbers (issued_session i m)
 after_issued m i fit h =
-    let both = go_on (issued1_of m) (numbers1 i.entries) && go_on (issued2_of m) (numbers2 i.entries) in
+    let going = go_on (issued1_of m) (numbers1 i.entries) && go_on (issued2_of m) (numbers2 i.entries) in
+    let left = has_left (issued1_of m) (numbers1 i.entries) && has_left (issued2_of m) (numbers2 i.entries) in
+    let both = going && left in
     let from_offsets = ascend i.entries && both in
     let from_entries = list_all (is_entry_of m i) i.entries && from_offsets in
     let from_some = nat_lt 0 (length i.entries) && from_entries in
@@ -82,7 +73,7 @@ after_issued m i fit h =
     let entries : from_entries ≡ true = (and_parts (nat_lt 0 (length i.entries)) from_entries some).1 in
     let offsets : from_offsets ≡ true = (and_parts (list_all (is_entry_of m i) i.entries) from_offsets entries).1 in
     let numbers : both ≡ true = (and_parts (ascend i.entries) both offsets).1 in
-    let tracks = and_parts (go_on (issued1_of m) (numbers1 i.entries)) (go_on (issued2_of m) (numbers2 i.entries)) numbers in
+    let tracks = and_parts (go_on (issued1_of m) (numbers1 i.entries)) (go_on (issued2_of m) (numbers2 i.entries)) (and_parts going left numbers).0 in
     let all1 = numbers1-append m.issued i.entries in
     let all2 = numbers2-append m.issued i.entries in
     let long1 : length (numbers1 (m.issued ++ i.entries)) ≡ length (numbers1 m.issued) + length (numbers1 i.entries) =

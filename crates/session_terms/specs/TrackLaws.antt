@@ -20,6 +20,24 @@ pub by_number2 : (es : List Entry) → numbers2 es ≡ numbers_by number2 es
 by_number2 [] = refl
 by_number2 (e ∷ es) = ap (with_number (number2 e.kind)) (by_number2 es)
 
+by-append : (number : Kind → Option ℕ) (es more : List Entry) → numbers_by number (es ++ more) ≡ numbers_by number es ++ numbers_by number more
+by-append number [] more = refl
+by-append number (e ∷ es) more = ap (with_number (number e.kind)) (by-append number es more) ∙ by (number e.kind)
+  where
+    by : (n : Option ℕ) → with_number n (numbers_by number es ++ numbers_by number more) ≡ with_number n (numbers_by number es) ++ numbers_by number more
+    by None = refl
+    by (Some n) = refl
+
+pub numbers1-append : (es more : List Entry) → numbers1 (es ++ more) ≡ numbers1 es ++ numbers1 more
+numbers1-append es more =
+    by_number1 (es ++ more) ∙ by-append number1 es more
+    ∙ ap (λ l. l ++ numbers_by number1 more) (sym (by_number1 es)) ∙ ap (λ l. numbers1 es ++ l) (sym (by_number1 more))
+
+pub numbers2-append : (es more : List Entry) → numbers2 (es ++ more) ≡ numbers2 es ++ numbers2 more
+numbers2-append es more =
+    by_number2 (es ++ more) ∙ by-append number2 es more
+    ∙ ap (λ l. l ++ numbers_by number2 more) (sym (by_number2 es)) ∙ ap (λ l. numbers2 es ++ l) (sym (by_number2 more))
+
 -- ---- numbers that go up between two
 
 abbrev pub GoUp : ℕ → ℕ → List ℕ → Type 0

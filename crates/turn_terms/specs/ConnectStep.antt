@@ -115,10 +115,13 @@ accepting s c client present = connack present Reason.success (assigned_props c 
 
 -- ---- the step
 
--- the connection that the client has is taken over (MQTT 3.1.4)
+-- the connection that the client has is taken over, and is told so (MQTT 3.1.4)
+abbrev pub takeover_close : ℕ → Close
+takeover_close conn = close_with conn Reason.session_taken_over 0
+
 abbrev pub takeover_closes : Setting → List ℕ → List Close
 takeover_closes s client =
-    elim (connection_of client s.connections) as (λ found. List Close) [ None ↦ [] | Some k ↦ close_with k.number Reason.session_taken_over 0 ∷ [] ]
+    elim (connection_of client s.connections) as (λ found. List Close) [ None ↦ [] | Some k ↦ takeover_close k.number ∷ [] ]
 
 abbrev pub connect_accepted : Setting → ConnectFields → List ℕ → Bool → Step
 connect_accepted s c client present =

@@ -16,7 +16,7 @@ use Rattle.turn_terms.specs.MayIssue.{may_issue}
 use Rattle.turn_terms.specs.Resend.{Resent, resent, resent_connection, with_rest, pass_changes, issued_packets}
 use Rattle.turn_terms.specs.Step.{Setting, Outcome, Kept, IsFull, AwaitsTooMany, Faulted, Reply, Step, is_nothing, is_settled, owes_nothing}
 use Rattle.turn_terms.specs.PublishStep.{acked_replies, acknowledged, holding, completed, of_shard}
-use Rattle.turn_terms.specs.ConnectStep.{connect_refusal, connect_step, client_for}
+use Rattle.turn_terms.specs.ConnectStep.{connect_refusal, connect_step, client_for, takeover_close}
 use Rattle.turn_terms.specs.PacketStep.{packet_step, closed_step, tick_step}
 use Rattle.turn_terms.specs.Worker.{Worker, Item, Answer, Answers, Accepts, Delivers, Pending, Note, note, SentAgain, Delivered, Out, Sent, Closed, sessions_of, setting_of, connection_in, session_in, sent_on, sendable, packets_of, acked_by}
 use Rattle.turn_terms.specs.Worker as Worker
@@ -463,7 +463,7 @@ module _ (profile : Profile) (config : Config) where
   ending_outs conn ending (Some k) = told conn ending.reason ++ (if ending.by_server then Closed conn ∷ [] else [])
 
   abbrev pub takeover_outs : Bool → ℕ → List Out
-  takeover_outs true conn = Sent conn (disconnect Reason.session_taken_over) ∷ Closed conn ∷ []
+  takeover_outs true conn = told conn (takeover_close conn).reason ++ Closed conn ∷ []
   takeover_outs false conn = []
 
   abbrev pub worker_outs : Worker → WorkerMove → List Out

@@ -1,0 +1,7 @@
+use Rattle.std.proofs.Common.{◌≡◌, ◌+◌, ◌-◌, ◌++◌}
+use Rattle.session_terms.specs.Acting.{numbers_from}
+use Rattle.seq_tracks.proofs.done.push_run.Given as goal
+
+-- so many were put behind those that stood there
+abbrev pub invariant-loop-before : goal.invariant-loop-before
+invariant-loop-before l = l.done.items ≡ l.initial.done.items ++ numbers_from (l.number + 1) (l.before - l.number)

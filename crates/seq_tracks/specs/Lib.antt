@@ -1,0 +1,14 @@
+pub mod PlainTracks
+pub mod InOrder
+pub mod Identifiers
+pub mod Changed
+pub mod StandFor
+pub mod ListLaws
+pub mod OrderLaws
+pub mod ChangedLaws
+pub mod IdentifierLaws
+pub mod RunLaws
+pub mod FinishLaws
+pub mod StandLaws
+pub mod AgreeLaws
+pub mod Examples
