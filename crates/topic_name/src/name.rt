@@ -1,7 +1,13 @@
 ghost use Rattle.std.specs.Prelude.{◌≡◌, List, ℕ, IfOk};
 ghost use Rattle.std.specs.Str.{bytes_eq};
+ghost use Rattle.std.specs.Hash as fed;
+ghost use Rattle.std.specs.Cmp.{partial_equiv_from_equiv};
+ghost use Rattle.std.specs.Cmp.Lexicographic.{nat_list_eq_equiv};
+ghost use Rattle.std.specs.Cmp.Rules.{hashing};
+ghost use Rattle.std.proofs.Common.{rules};
 
 use std::alloc::{AllocError, Global};
+use std::hash::{Hash, Hasher};
 use std::marker::Model;
 
 /// A text of a packet or a record: a client identifier, a topic name, a filter. Seen as its bytes (MQTT 1.5.4).
@@ -52,5 +58,30 @@ impl Name {
         ensures { result ≡ bytes_eq self.now other.now }
     {
         self.bytes() == other.bytes()
+    }
+}
+
+/// Names are equal where their bytes are, as keys of a map too.
+impl PartialEq for Name {
+    ghost eq = { bytes_eq };
+
+    ghost laws = { partial_equiv_from_equiv nat_list_eq_equiv };
+
+    fn eq(&self, other: &Self) -> bool {
+        self.is(other)
+    }
+}
+
+impl Eq for Name {
+    ghost laws = { nat_list_eq_equiv };
+}
+
+impl Hash for Name {
+    ghost hash_input = { fed.str };
+
+    ghost respects_eq = { Prim.search (hashing, rules) };
+
+    fn hash<H: Hasher>(&self, state: &mut H) {
+        self.text().hash(state);
     }
 }

@@ -1,8 +1,11 @@
 pub mod Levels
+pub mod LevelsLaws
 pub mod Matching
 pub mod Texts
+pub mod TextsLaws
 pub mod Routing
 pub mod RoutingLaws
 pub mod StoredMessage
 pub mod Profile
+pub mod Limits
 pub mod Examples

@@ -1,3 +1,8 @@
+ghost use Rattle.std.specs.Prelude.{◌≡◌};
+ghost use Rattle.topic_terms.specs.declared.refused.FilterRefused.TheVariants as Filter;
+ghost use Rattle.topic_terms.specs.declared.refused.TopicRefused.TheVariants as Topic;
+
+use std::alloc::AllocError;
 use thiserror::Error;
 
 /// Why a text is no topic name, the first that holds.
@@ -18,6 +23,14 @@ pub enum TopicRefused {
     /// There is no memory for it.
     #[error("out of memory")]
     Memory,
+}
+
+impl From<AllocError> for TopicRefused {
+    ghost from_gives = { λ _ e. e ≡ Topic.Memory };
+
+    fn from(_: AllocError) -> TopicRefused {
+        TopicRefused::Memory
+    }
 }
 
 /// Why a text is no topic filter, the first that holds.
@@ -44,4 +57,12 @@ pub enum FilterRefused {
     /// There is no memory for it.
     #[error("out of memory")]
     Memory,
+}
+
+impl From<AllocError> for FilterRefused {
+    ghost from_gives = { λ _ e. e ≡ Filter.Memory };
+
+    fn from(_: AllocError) -> FilterRefused {
+        FilterRefused::Memory
+    }
 }

@@ -1,0 +1,2 @@
+mod LevelsLemmas
+mod TextsLemmas

@@ -1,0 +1,9 @@
+use Rattle.topic_terms.specs.LevelsLaws.{some_level}
+use Rattle.topic_terms.specs.TextsLaws.{filter_text}
+use Rattle.topic_name.proofs.filter.Filter.levels.Goals as goal
+
+pub returns-clause-some : goal.returns-clause-some
+returns-clause-some c = rw (← c.self.view_is) (some_level c.self.inside.name)
+
+pub returns-clause-few : goal.returns-clause-few
+returns-clause-few c = rw (← c.self.view_is) ((filter_text c.self.inside.name c.self.invariant).few_levels)

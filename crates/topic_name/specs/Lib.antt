@@ -1,0 +1,4 @@
+pub mod PlainConfig
+pub mod LevelsLeft
+pub mod KeptMessage
+pub mod BodyView
