@@ -104,8 +104,8 @@ abbrev pub first_run : List (List ℕ) → ℕ → List Stretch → Option Run
 first_run wish start [] = None
 first_run wish start (stretch ∷ rest) =
     elim (wanted_in wish start stretch) as (λ ms. Option Run) [
-      [] ↦ first_run wish start rest
-    | m ∷ ms ↦ Some (record { messages = m ∷ ms; sweep = stretch.sweep })
+      | [] ↦ first_run wish start rest
+      | m ∷ ms ↦ Some (record { messages = m ∷ ms; sweep = stretch.sweep })
     ]
 
 abbrev pub at_most : ℕ → Option Run → Option Run
