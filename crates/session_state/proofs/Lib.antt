@@ -1,0 +1,4 @@
+pub mod EntryLemmas
+pub mod SubLemmas
+pub mod ChangeLemmas
+pub mod SoundLemmas
