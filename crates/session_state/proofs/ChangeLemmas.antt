@@ -1,10 +1,11 @@
 -- What a change leaves of a session holds of every session.
-use Rattle.std.proofs.Common.{◌≡◌, ℕ, true, ◌+◌, List, [], ◌∷◌, ◌++◌, length, take, drop, append-nil, refl, sym, ap, subst, ◌∙◌, arith}
+use Rattle.std.proofs.Common.{◌≡◌, ℕ, true, ◌+◌, List, [], ◌∷◌, ◌++◌, length, take, drop, append-nil, sym, ap, subst, ◌∙◌, arith}
 use Rattle.std.proofs.lemmas.List.{drop_all, take_all}
 use Rattle.topic_terms.specs.Profile.{whole}
 use Rattle.session_terms.specs.Change.{Subscribes}
 use Rattle.session_terms.specs.declared.entry.Version.{Version}
 use Rattle.seq_tracks.specs.PlainTracks.{PlainTracks}
+use Rattle.seq_tracks.specs.InOrder.{InOrder}
 use Rattle.session_state.specs.declared.batch.Batch.{Batch}
 use Rattle.session_state.specs.declared.change.Effect.{Effect}
 use Rattle.session_state.specs.KeptSub.{KeptSub}
@@ -13,12 +14,13 @@ use Rattle.session_state.specs.KeptActing.{kept_batches, kept_changed, kept_subs
 use Rattle.session_state.specs.KeptFits.{session_fits}
 use Rattle.session_state.specs.Sound.{IsSound}
 use Rattle.session_state.specs.TidyLaws.{tidied_by}
-use Rattle.session_state.specs.AddLaws.{sound_changed}
+use Rattle.session_state.specs.SoundLaws.{sound_changed}
 
-pub sound_by : (m old : KeptSession) (effect : Effect) (new : KeptSession) → m ≡ old → session_fits whole old effect ≡ true → new ≡ kept_changed effect m → IsSound new
-sound_by m old effect new same fits is =
+pub sound_by : (m old : KeptSession) (effect : Effect) (new : KeptSession) → m ≡ old → session_fits whole old effect ≡ true → IsSound m → InOrder m.tracks →
+    new ≡ kept_changed effect m → IsSound new
+sound_by m old effect new same fits sound order is =
     let fits_it = subst (λ s. session_fits whole s effect ≡ true) (sym same) fits in
-    subst IsSound (sym is) (sound_changed m effect fits_it)
+    subst IsSound (sym is) (sound_changed m effect sound order fits_it)
 
 -- with other tracks, and what is then needed
 pub tidied_with : (m : KeptSession) (tracks moved : PlainTracks) (batches : List Batch) (versions : List Version) (subs : List KeptSub) → tracks ≡ moved →

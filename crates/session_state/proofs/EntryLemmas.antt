@@ -1,5 +1,5 @@
 -- Sessions as entries of a map by client.
-use Rattle.std.proofs.Common.{◌≡◌, ℕ, suc, Bool, true, false, not, ◌&&◌, ◌==◌, if◌then◌else◌, nat_le, length, List, [], ◌∷◌, ◌++◌, map, filter, Option, Some, None, find, bytes_eq, IsNone, rules, Result, Ok, Err, OnErr, true≢false, refl, sym, ap, subst, ◌∙◌}
+use Rattle.std.proofs.Common.{◌≡◌, ℕ, suc, Bool, true, false, not, ◌&&◌, ◌==◌, if◌then◌else◌, nat_le, length, List, [], ◌∷◌, ◌++◌, filter, Option, Some, None, find, bytes_eq, IsNone, rules, Result, Ok, Err, OnErr, refl, sym, ap, subst, ◌∙◌}
 use Rattle.std.specs.Cmp.Lexicographic.{nat_list_eq_equiv}
 use Rattle.std.specs.List.{IsDistinct, AllByRecursion, list_all}
 use Rattle.std.proofs.Math.Bool.{and-true}

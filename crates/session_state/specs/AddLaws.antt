@@ -1,6 +1,6 @@
 -- What the changes that add something need: room for a subscription, and for the numbers of a batch.
-use Rattle.std.proofs.Common.{◌≡◌, ℕ, ◌+◌, ◌-◌, ◌≤◌, ◌<◌, Bool, true, false, ◌&&◌, ◌||◌, ◌==◌, if◌then◌else◌, nat_le, nat_lt, List, [], ◌∷◌, ◌++◌, length, map, filter, is_none, slice_set, None, refl, sym, ap, ◌∙◌, arith, length-append, append-nil}
-use Rattle.std.specs.List.{list_any, list_all, sum_by}
+use Rattle.std.proofs.Common.{◌≡◌, ℕ, ◌+◌, Bool, true, false, ◌&&◌, ◌||◌, ◌==◌, if◌then◌else◌, nat_le, nat_lt, List, [], ◌∷◌, ◌++◌, length, map, filter, is_none, slice_set, refl, ap, ◌∙◌, arith, length-append}
+use Rattle.std.specs.List.{list_any}
 use Rattle.std.proofs.lemmas.Bool.{and_parts, and_from, or_left}
 use Rattle.std.proofs.lemmas.Bool.Decides.{nat_tests}
 use Rattle.std.proofs.Math.Bool.{and-true}
@@ -22,12 +22,12 @@ use Rattle.session_state.specs.declared.change.Effect.TheVariants.{Subscribed, I
 use Rattle.session_state.specs.declared.change.Issued.{Issued as Issuing}
 use Rattle.session_state.specs.KeptSub.{KeptSub}
 use Rattle.session_state.specs.KeptSession.{KeptSession}
-use Rattle.session_state.specs.KeptActing.{has_version, is_named, is_present, issued_kept, kept_batches, kept_changed, kept_subs, kept_versions, new_sub, on_sub, with_effect, subscribed_kept, tidied, version_of}
+use Rattle.session_state.specs.KeptActing.{has_version, is_named, is_present, issued_kept, kept_batches, kept_changed, kept_subs, kept_versions, new_sub, subscribed_kept, version_of}
 use Rattle.session_state.specs.KeptFits.{has_filters, kept_suits, is_window, kept_within, live_count, session_fits, subs_within, text_bytes}
 use Rattle.session_state.specs.Sound.{IsTidy, IsSound}
 use Rattle.session_state.specs.FilterLaws.{kept_by_more, kept_cons}
-use Rattle.session_state.specs.TidyLaws.{tidied_is_tidy, tidy_stays}
-use Rattle.session_state.specs.LimitLaws.{Shrinks, Ends, shrinks_filter, shrinks_on_sub, shrinks_then, subs_within_less}
+use Rattle.session_state.specs.TidyLaws.{tidy_stays}
+use Rattle.session_state.specs.LimitLaws.{Shrinks, shrinks_filter, shrinks_on_sub, shrinks_then, subs_within_less}
 
 -- ---- a new subscription
 
@@ -146,16 +146,6 @@ issued_within i m sound order =
     ∙ ap (λ a. a && (subs_within whole subs && nat_le (in_use n.tracks) m.window)) more.0
     ∙ ap (λ a. a && nat_le (in_use n.tracks) m.window) within
     ∙ ap (λ u. nat_le u m.window) (used_issued m.tracks i.batch.count1 i.batch.count2 order)
-
--- ---- each change
-
--- a change that fits leaves what holds of every session
-pub sound_changed : (m : KeptSession) (effect : Effect) → session_fits whole m effect ≡ true → IsSound (kept_changed effect m)
-sound_changed m effect fits =
-    record {
-      tidy = tidied_is_tidy (with_effect effect m);
-      within = (and_parts (kept_suits m effect) (kept_within whole (kept_changed effect m)) fits).1;
-    }
 
 pub suits_of : (m : KeptSession) (effect : Effect) → session_fits whole m effect ≡ true → kept_suits m effect ≡ true
 suits_of m effect fits = (and_parts (kept_suits m effect) (kept_within whole (kept_changed effect m)) fits).0

@@ -1,28 +1,18 @@
 -- Each change by itself keeps the facts of a session.
-use Rattle.std.proofs.Common.{◌≡◌, ◌⊎◌, inl, inr, ℕ, zero, suc, ◌+◌, ◌-◌, ◌≤◌, ◌<◌, Bool, true, false, not, ◌&&◌, ◌||◌, ◌==◌, if◌then◌else◌, nat_le, nat_lt, List, [], ◌∷◌, ◌++◌, length, map, filter, find, count_by, slice_set, Option, Some, None, refl, sym, ap, subst, ◌∙◌, true≢false, arith}
-use Rattle.std.specs.List.{list_all, list_any}
-use Rattle.std.proofs.lemmas.Bool.{and_parts, and_from, or_cases, or_left, or_right, or_parts, eqb-true}
+use Rattle.std.proofs.Common.{◌≡◌, ◌⊎◌, inl, inr, ℕ, zero, suc, ◌+◌, ◌-◌, ◌≤◌, ◌<◌, Bool, true, false, not, ◌&&◌, ◌||◌, ◌==◌, if◌then◌else◌, nat_le, List, [], ◌∷◌, refl, sym, ap, ◌∙◌, true≢false, arith}
+use Rattle.std.specs.List.{list_all}
+use Rattle.std.proofs.lemmas.Bool.{and_parts, and_from, or_cases, or_right, or_parts}
 use Rattle.std.proofs.lemmas.Bool.Decides.{nat_tests}
-use Rattle.std.proofs.lemmas.List.{map-append}
-use Rattle.std.proofs.lemmas.List.Folds.{list_all-append}
-use Rattle.session_terms.specs.Change.{Subscribes}
-use Rattle.session_terms.specs.declared.entry.Version.{Version}
-use Rattle.session_terms.specs.Acting.{changed_if, numbers_from}
+use Rattle.session_terms.specs.Acting.{numbers_from}
 use Rattle.session_terms.specs.FitsSession.{is_between}
-use Rattle.seq_tracks.specs.PlainTracks.{PlainTracks, is_done, is_unfinished1, is_unfinished2, mark_of, last_of, is_released}
+use Rattle.seq_tracks.specs.PlainTracks.{PlainTracks, is_done, is_unfinished1, is_unfinished2, mark_of, last_of}
 use Rattle.seq_tracks.specs.InOrder.{InOrder}
 use Rattle.seq_tracks.specs.Changed.{acked_tracks, received_tracks, done_tracks, passed_tracks, with_done}
 use Rattle.seq_tracks.specs.FinishLaws.{finished-received, finished-passed, finished-done}
 use Rattle.session_state.specs.declared.batch.Batch.{Batch}
-use Rattle.session_state.specs.declared.change.Replaced.{Replaced as Replacing}
-use Rattle.session_state.specs.KeptSub.{KeptSub}
-use Rattle.session_state.specs.KeptSession.{KeptSession, sub_numbered}
-use Rattle.session_state.specs.KeptActing.{new_sub, next_version_of, on_sub, replaced_kept, subscribed_kept, unsubscribed_kept, version_of}
-use Rattle.session_state.specs.KeptFits.{if_live, is_live, is_next_sub, is_next_version}
-use Rattle.session_state.specs.SoundTest.{are_issued, each_lies1, each_lies2, ended_rest, holds_sub, holds_version, lies_in_one1, lies_in_one2, rise, sub_numbers, version_numbers}
-use Rattle.session_state.specs.AddLaws.{any_mapped, any_more, last_any, same_number}
+use Rattle.session_state.specs.KeptSession.{KeptSession}
+use Rattle.session_state.specs.SoundTest.{are_issued, each_lies1, each_lies2, lies_in_one1, lies_in_one2}
 use Rattle.session_state.specs.FactLaws.{HasFacts}
-use Rattle.session_state.specs.ListLaws.{all_weaker}
 
 -- ---- runs of numbers
 

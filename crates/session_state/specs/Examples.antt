@@ -1,5 +1,5 @@
 -- Computed examples of kept sessions: what each change makes, when it fits, and what is kept.
-use Rattle.std.specs.Prelude.{ℕ, ◌≡◌, Bool, true, false, List, [], ◌∷◌, ◌++◌, length, map, codes, Option, Some, None, refl}
+use Rattle.std.specs.Prelude.{ℕ, ◌≡◌, Bool, true, false, List, [], ◌∷◌, length, map, codes, Option, Some, None, refl}
 use Rattle.topic_terms.specs.Profile.{whole}
 use Rattle.topic_terms.specs.Levels.{levels_of}
 use Rattle.shard_terms.specs.declared.sweep.Sweep.{Sweep}

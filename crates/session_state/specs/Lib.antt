@@ -16,4 +16,6 @@ pub mod ListLaws
 pub mod FactLaws
 pub mod EffectLaws
 pub mod SubEffectLaws
+pub mod BatchEffectLaws
+pub mod CountLaws
 pub mod Examples

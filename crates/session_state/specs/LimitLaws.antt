@@ -1,18 +1,16 @@
 -- A change that adds nothing leaves a session within its limits.
-use Rattle.std.proofs.Common.{◌≡◌, ℕ, zero, suc, ◌+◌, ◌-◌, ◌≤◌, ◌<◌, Bool, true, false, ◌&&◌, ◌||◌, ◌==◌, if◌then◌else◌, nat_le, List, [], ◌∷◌, ◌++◌, length, map, filter, is_none, refl, sym, ap, subst, ◌∙◌, true≢false, arith}
-use Rattle.std.specs.List.{list_all, sum_by}
-use Rattle.std.proofs.lemmas.Bool.{and_parts, and_from, le-leb}
+use Rattle.std.proofs.Common.{◌≡◌, ℕ, ◌+◌, ◌-◌, ◌≤◌, Bool, true, false, ◌&&◌, ◌||◌, ◌==◌, if◌then◌else◌, nat_le, List, [], ◌∷◌, ◌++◌, length, map, filter, is_none, refl, sym, ap, subst, ◌∙◌, true≢false, arith}
+use Rattle.std.specs.List.{list_all}
+use Rattle.std.proofs.lemmas.Bool.{and_parts, and_from}
 use Rattle.std.proofs.lemmas.Bool.Decides.{nat_tests}
 use Rattle.std.proofs.lemmas.List.Sums.{sum_by-cons}
 use Rattle.topic_terms.specs.Profile.{whole}
 use Rattle.topic_terms.specs.Levels.{text_of_levels}
 use Rattle.topic_terms.specs.Texts.{filter_refusal}
-use Rattle.session_terms.specs.PlainSession.{done_from}
 use Rattle.session_terms.specs.Acting.{changed_if, numbers_from}
 use Rattle.session_terms.specs.FitsSession.{is_between}
-use Rattle.session_terms.specs.declared.entry.Version.{Version}
 use Rattle.seq_tracks.specs.PlainTracks.{PlainTracks, in_use, mark_of, last_of}
-use Rattle.seq_tracks.specs.Changed.{acked_tracks, received_tracks, done_tracks, passed_tracks, complete_with, with_done}
+use Rattle.seq_tracks.specs.Changed.{acked_tracks, passed_tracks, complete_with, with_done}
 use Rattle.session_terms.specs.Change.{Subscribes}
 use Rattle.session_state.specs.declared.change.Effect.{Effect}
 use Rattle.session_state.specs.declared.change.Issued.{Issued as Issuing}
@@ -20,7 +18,7 @@ use Rattle.session_state.specs.declared.change.Effect.TheVariants.{Began, Ended,
 use Rattle.session_state.specs.KeptSub.{KeptSub}
 use Rattle.session_state.specs.KeptSession.{KeptSession}
 use Rattle.session_state.specs.KeptActing.{kept_changed, kept_subs, kept_versions, kept_batches, on_sub, tidied, with_effect}
-use Rattle.session_state.specs.KeptFits.{has_filters, is_window, kept_suits, kept_within, live_count, session_fits, subs_within, text_bytes}
+use Rattle.session_state.specs.KeptFits.{has_filters, is_window, kept_suits, kept_within, live_count, subs_within, text_bytes}
 
 -- ---- subscriptions
 

@@ -1,22 +1,21 @@
 -- Changes of subscriptions keep the facts of a session, and so does a batch.
-use Rattle.std.proofs.Common.{◌≡◌, ◌⊎◌, inl, inr, ℕ, zero, suc, ◌+◌, ◌-◌, ◌≤◌, ◌<◌, Bool, true, false, not, ◌&&◌, ◌||◌, ◌==◌, if◌then◌else◌, nat_le, nat_lt, List, [], ◌∷◌, ◌++◌, length, map, filter, find, count_by, slice_get, slice_set, Option, Some, None, is_some, refl, sym, ap, subst, ◌∙◌, true≢false, arith}
+use Rattle.std.proofs.Common.{◌≡◌, ℕ, ◌+◌, ◌≤◌, Bool, true, false, not, ◌&&◌, ◌||◌, ◌==◌, if◌then◌else◌, nat_le, nat_lt, List, [], ◌∷◌, ◌++◌, length, map, find, Option, Some, None, refl, sym, ap, ◌∙◌, true≢false, arith}
 use Rattle.std.specs.List.{list_all, list_any}
-use Rattle.std.proofs.lemmas.Bool.{and_parts, and_from, or_cases, or_left, or_right, eqb-true, cases_lt}
+use Rattle.std.proofs.lemmas.Bool.{and_parts, and_from, or_right, eqb-true}
 use Rattle.std.proofs.lemmas.Bool.Decides.{nat_tests}
-use Rattle.std.proofs.lemmas.List.{map-append, length-set}
+use Rattle.std.proofs.lemmas.List.{map-append}
 use Rattle.std.proofs.lemmas.List.Folds.{list_all-append}
 use Rattle.session_terms.specs.Change.{Subscribes}
 use Rattle.session_terms.specs.declared.entry.Version.{Version}
-use Rattle.session_terms.specs.Acting.{changed_if, numbers_from}
+use Rattle.session_terms.specs.Acting.{changed_if}
 use Rattle.session_terms.specs.FitsSession.{greatest_of_four}
 use Rattle.session_state.specs.declared.batch.Batch.{Batch}
 use Rattle.session_state.specs.declared.change.Replaced.{Replaced as Replacing}
-use Rattle.session_state.specs.declared.change.Issued.{Issued as Issuing}
 use Rattle.session_state.specs.KeptSub.{KeptSub}
 use Rattle.session_state.specs.KeptSession.{KeptSession, sub_numbered}
 use Rattle.session_state.specs.KeptActing.{new_sub, next_version_of, on_sub, replaced_kept, subscribed_kept, unsubscribed_kept, version_of}
 use Rattle.session_state.specs.KeptFits.{if_live, is_live, is_next_sub, is_next_version, replaces, subscribes}
-use Rattle.session_state.specs.SoundTest.{ended_rest, holds_sub, holds_version, rise, sub_numbers, version_numbers}
+use Rattle.session_state.specs.SoundTest.{holds_sub, holds_version, rise, sub_numbers}
 use Rattle.session_state.specs.AddLaws.{any_mapped, any_more, last_any, same_number}
 use Rattle.session_state.specs.FactLaws.{HasFacts}
 use Rattle.session_state.specs.ListLaws.{all_weaker}
@@ -94,7 +93,7 @@ facts_subscribed m s fits f =
 
 -- ---- a changed one
 
-all_mapped : {X : Type 0} (a c : X → Bool) (g : X → X) (xs : List X) → ((x : X) → a x ≡ true → c (g x) ≡ true) → list_all a xs ≡ true → list_all c (map g xs) ≡ true
+pub all_mapped : {X : Type 0} (a c : X → Bool) (g : X → X) (xs : List X) → ((x : X) → a x ≡ true → c (g x) ≡ true) → list_all a xs ≡ true → list_all c (map g xs) ≡ true
 all_mapped a c g [] each all = refl
 all_mapped a c g (x ∷ xs) each all =
     let parts = and_parts (a x) (list_all a xs) all in
@@ -113,8 +112,8 @@ found_any test (y ∷ xs) x found = by (test y) found (found_any test xs x)
     by false found rest = rest found
 
 -- what a change of one subscription leaves: its number
-record KeepsNumber (f : KeptSub → KeptSub) : Type 0 where
-  number : (s : KeptSub) → (f s).number ≡ s.number
+pub record KeepsNumber (f : KeptSub → KeptSub) : Type 0 where
+  pub number : (s : KeptSub) → (f s).number ≡ s.number
 
 same_if : (n : ℕ) (f : KeptSub → KeptSub) → KeepsNumber f → (s : KeptSub) → (changed_if (s.number == n) f s).number ≡ s.number
 same_if n f keeps s = by (s.number == n)
@@ -123,10 +122,10 @@ same_if n f keeps s = by (s.number == n)
     by true = keeps.number s
     by false = refl
 
-numbers_on : (n : ℕ) (f : KeptSub → KeptSub) → KeepsNumber f → (subs : List KeptSub) → sub_numbers (on_sub n f subs) ≡ sub_numbers subs
+pub numbers_on : (n : ℕ) (f : KeptSub → KeptSub) → KeepsNumber f → (subs : List KeptSub) → sub_numbers (on_sub n f subs) ≡ sub_numbers subs
 numbers_on n f keeps subs = map_same (λ (s : KeptSub). s.number) (λ (s : KeptSub). changed_if (s.number == n) f s) subs (same_if n f keeps)
 
-holds_on : (n : ℕ) (f : KeptSub → KeptSub) → KeepsNumber f → (subs : List KeptSub) (number : ℕ) → holds_sub (on_sub n f subs) number ≡ holds_sub subs number
+pub holds_on : (n : ℕ) (f : KeptSub → KeptSub) → KeepsNumber f → (subs : List KeptSub) (number : ℕ) → holds_sub (on_sub n f subs) number ≡ holds_sub subs number
 holds_on n f keeps subs number =
     any_mapped (λ (s : KeptSub). s.number == number) (λ (s : KeptSub). changed_if (s.number == n) f s) subs (λ s. ap (λ k. k == number) (same_if n f keeps s))
 

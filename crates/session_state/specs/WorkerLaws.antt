@@ -1,5 +1,5 @@
 -- The sessions of a worker within their limits, before and after a change.
-use Rattle.std.proofs.Common.{◌≡◌, ◌⊎◌, inl, inr, ℕ, zero, suc, ◌+◌, ◌≤◌, ◌<◌, Bool, true, false, not, ◌&&◌, ◌||◌, ◌==◌, if◌then◌else◌, nat_le, nat_lt, List, [], ◌∷◌, ◌++◌, length, map, filter, find, bytes_eq, Option, Some, None, is_some, is_none, true≢false, refl, sym, ap, subst, ◌∙◌, arith, length-append}
+use Rattle.std.proofs.Common.{◌≡◌, ℕ, ◌+◌, ◌≤◌, Bool, true, false, not, ◌&&◌, ◌||◌, ◌==◌, if◌then◌else◌, nat_le, nat_lt, List, [], ◌∷◌, ◌++◌, length, filter, find, bytes_eq, Option, Some, None, is_some, is_none, true≢false, refl, sym, ap, subst, ◌∙◌, arith, length-append}
 use Rattle.std.specs.List.{list_all}
 use Rattle.std.proofs.Math.Bool.{and-true}
 use Rattle.std.proofs.lemmas.Bool.{and_parts, and_from}
@@ -7,14 +7,13 @@ use Rattle.std.proofs.lemmas.Bool.Decides.{nat_tests}
 use Rattle.std.proofs.lemmas.List.Elements.{filter-append}
 use Rattle.std.proofs.lemmas.List.Folds.{list_all-append}
 use Rattle.topic_terms.specs.Profile.{whole}
-use Rattle.session_terms.specs.Acting.{changed_if}
 use Rattle.session_terms.specs.FitsSession.{greatest}
 use Rattle.session_state.specs.declared.change.Began.{Began as Beginning}
 use Rattle.session_state.specs.declared.change.Effect.{Effect}
 use Rattle.session_state.specs.declared.change.Effect.TheVariants.{Began, Ended, Bound, Parted, Subscribed, Replaced, Unsubscribed, Issued, Acked, Received, Done, Passed}
 use Rattle.session_state.specs.KeptSession.{KeptSession, KeptSessions, begun_kept, session_of}
 use Rattle.session_state.specs.KeptActing.{acted_on, change_of, is_of_held, kept_changed, on_session, without_session}
-use Rattle.session_state.specs.KeptFits.{held_fits, is_wide, is_window, kept_are_within, kept_finds, kept_fits, kept_suits, kept_within, session_fits, wide_count}
+use Rattle.session_state.specs.KeptFits.{is_wide, is_window, kept_are_within, kept_finds, kept_fits, kept_within, wide_count}
 use Rattle.session_state.specs.FilterLaws.{filter_shorter}
 
 -- ---- a session ends

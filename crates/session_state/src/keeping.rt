@@ -17,10 +17,12 @@ pub(crate) fn tidy(
     versions: &mut Vec<Version>,
     subs: &mut Vec<Sub>,
 )
-    requires versions { kept_versions subs.old.items batches.old.items versions.old.items ≡ versions.old.items }
+    requires versions { kept_versions subs.old.items batches.old.items versions.old.items
+        ≡ versions.old.items }
     requires subs { kept_subs versions.old.items subs.old.items ≡ subs.old.items }
     ensures batches { batches.new.items ≡ kept_batches tracks.now batches.old.items }
-    ensures versions { versions.new.items ≡ kept_versions subs.old.items batches.new.items versions.old.items }
+    ensures versions { versions.new.items
+        ≡ kept_versions subs.old.items batches.new.items versions.old.items }
     ensures subs { subs.new.items ≡ kept_subs versions.new.items subs.old.items }
 {
     let before = batches.len();
@@ -33,7 +35,8 @@ pub(crate) fn tidy(
 /// Drops the versions that are no live subscription's present one and that no batch names, and then the ended
 /// subscriptions without a version.
 pub(crate) fn drop_unneeded(batches: &[Batch], versions: &mut Vec<Version>, subs: &mut Vec<Sub>)
-    ensures versions { versions.new.items ≡ kept_versions subs.old.items batches.now versions.old.items }
+    ensures versions { versions.new.items
+        ≡ kept_versions subs.old.items batches.now versions.old.items }
     ensures subs { subs.new.items ≡ kept_subs versions.new.items subs.old.items }
 {
     drop_versions(subs, batches, versions);
@@ -99,7 +102,8 @@ fn any_unfinished(tracks: &Tracks, track: u8, first: u64, count: u16) -> bool
 }
 
 fn any_unfinished_between(tracks: &Tracks, track: u8, first: u64, end: u64) -> bool
-    ensures { result ≡ list_any (is_unfinished tracks.now track) (numbers_from first (end - first)) }
+    ensures { result
+        ≡ list_any (is_unfinished tracks.now track) (numbers_from first (end - first)) }
 {
     for number in first..end {
         if tracks.is_unfinished(track, number) {

@@ -7,12 +7,15 @@
 //!     let session = sessions.get(&client); // Some: it has no subscriptions yet
 //!
 //! Read `specs/KeptSession.antt` first, what callers see, then `specs/KeptActing.antt`, what each change makes, and
-//! `specs/KeptFits.antt`, when a change fits. `specs/Examples.antt` has what computes.
+//! `specs/KeptFits.antt`, when a change fits, and `specs/SoundTest.antt`, what holds of every session that is held.
+//! `specs/Examples.antt` has what computes. The laws stand in `src/laws.rt`, and for other proofs in `specs/`:
+//! `TidyLaws.antt`, `LimitLaws.antt` and `AddLaws.antt` (limits), `WorkerLaws.antt` (all sessions), `SoundLaws.antt`.
 #![tactic(auto)]
 
 mod batch;
 mod change;
 mod keeping;
+mod laws;
 mod parts;
 mod session;
 mod sessions;
@@ -22,6 +25,7 @@ mod subs;
 
 pub use batch::Batch;
 pub use change::{Began, Change, Effect, Issued, Parted, Passed, Replaced, Subscribed};
+pub use laws::{changes_keep_sound, few_are_kept, tidied_is_tidy};
 pub use parts::SessionParts;
 pub use session::{MOST_FILTER_TEXTS, MOST_SUBSCRIPTIONS, Session};
 pub use sessions::{

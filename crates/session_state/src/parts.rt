@@ -101,7 +101,8 @@ impl SessionParts {
 
     // Whether its batches are in the order of issue, and each unfinished number lies in exactly one.
     fn has_issued(&self) -> bool
-        ensures { result ≡ (are_issued 1 1 self.now.tracks.issued1 self.now.tracks.issued2 self.now.batches
+        ensures { result
+            ≡ (are_issued 1 1 self.now.tracks.issued1 self.now.tracks.issued2 self.now.batches
             && (each_lies1 self.now.tracks self.now.batches && each_lies2 self.now.tracks self.now.batches)) }
     {
         are_issued(&self.tracks, &self.batches)

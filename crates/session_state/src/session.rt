@@ -1,9 +1,8 @@
-ghost use Rattle.std.specs.Prelude.{◌≡◌, true, IfOk, IsTrue};
+ghost use Rattle.std.specs.Prelude.{◌≡◌, ◌≤◌, ◌+◌, length, true, IfOk, IsTrue};
 ghost use Rattle.std.specs.Option.{SomeIff};
 ghost use Rattle.topic_terms.specs.Profile.{whole};
 ghost use Rattle.session_state.specs.KeptSession.{begun_kept};
 ghost use Rattle.session_state.specs.KeptFits.{kept_within};
-ghost use Rattle.session_state.specs.Sound.{IsTidy};
 ghost use Rattle.session_state.specs.SoundTest.{is_sound};
 
 mod changing;
@@ -50,8 +49,10 @@ impl Model for Session {
 impl Session {
     // A session that begins, bound to a connection.
     pub(crate) fn begun(alloc: Global, client: Name, began: &Began) -> Session
-        requires { IsTrue (kept_within whole (begun_kept client began.now.incarnation began.now.expiry began.now.window)) }
-        ensures { result ≡ begun_kept client began.now.incarnation began.now.expiry began.now.window }
+        requires { IsTrue (kept_within whole
+            (begun_kept client began.now.incarnation began.now.expiry began.now.window)) }
+        ensures { result
+            ≡ begun_kept client began.now.incarnation began.now.expiry began.now.window }
     {
         Session {
             client,
@@ -114,8 +115,10 @@ impl Session {
 
     /// What holds of every session. It does nothing.
     pub fn facts(&self)
-        ensures tidy { IsTidy self.now }
+        ensures sound { IsTrue (is_sound self.now) }
         ensures within { kept_within whole self.now ≡ true }
+        ensures batches { length self.now.batches ≤ self.now.window }
+        ensures versions { length self.now.versions ≤ MOST_SUBSCRIPTIONS + self.now.window }
     {
         let _fields = &self.client;
     }

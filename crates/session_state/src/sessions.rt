@@ -84,7 +84,8 @@ impl Sessions {
 
     // Whether the limits hold with one more session.
     fn stays_within(&self, session: &Session) -> bool
-        ensures { result ≡ kept_are_within whole (record self.now { list = self.now.list ++ session.now ∷ [] }) }
+        ensures { result
+            ≡ kept_are_within whole (record self.now { list = self.now.list ++ session.now ∷ [] }) }
     {
         session.facts();
         let _within = &self.map;
@@ -122,7 +123,8 @@ impl Sessions {
 
     // Begins the session of a client.
     fn begin(&mut self, client: &Name, began: &Began) -> Result<bool, AllocError>
-        ensures fits { IfOk result (λ fits. fits ≡ kept_fits whole self.old (change_of client.now (Effect.Began began.now))) }
+        ensures fits { IfOk result (λ fits. fits
+            ≡ kept_fits whole self.old (change_of client.now (Effect.Began began.now))) }
         ensures changed { IfOk result (λ fits. self.new
             ≡ (if fits then acted_on client.now (Effect.Began began.now) self.old else self.old)) }
         ensures memory { OnErr result (self.new ≡ self.old) }
@@ -138,7 +140,8 @@ impl Sessions {
 
     // Whether a session may begin: its client has none, it has the next number, and the limits hold with it.
     fn may_begin(&self, client: &Name, began: &Began) -> bool
-        ensures { result ≡ kept_fits whole self.now (change_of client.now (Effect.Began began.now)) }
+        ensures { result
+            ≡ kept_fits whole self.now (change_of client.now (Effect.Began began.now)) }
     {
         self.get(client).is_none()
             && is_next(self.next_incarnation, began.incarnation)
@@ -157,7 +160,8 @@ impl Sessions {
 
     // Ends the session of a client.
     fn end(&mut self, client: &Name) -> Result<bool, AllocError>
-        ensures fits { IfOk result (λ fits. fits ≡ kept_fits whole self.old (change_of client.now Effect.Ended)) }
+        ensures fits { IfOk result (λ fits. fits
+            ≡ kept_fits whole self.old (change_of client.now Effect.Ended)) }
         ensures changed { IfOk result (λ fits. self.new
             ≡ (if fits then acted_on client.now Effect.Ended self.old else self.old)) }
         ensures memory { OnErr result (self.new ≡ self.old) }
@@ -169,7 +173,8 @@ impl Sessions {
     // Lets a change of a held session act.
     fn change(&mut self, client: &Name, effect: &Effect) -> Result<bool, AllocError>
         requires { IsTrue (is_of_held effect.now) }
-        ensures fits { IfOk result (λ fits. fits ≡ kept_fits whole self.old (change_of client.now effect.now)) }
+        ensures fits { IfOk result (λ fits. fits
+            ≡ kept_fits whole self.old (change_of client.now effect.now)) }
         ensures changed { IfOk result (λ fits. self.new
             ≡ (if fits then acted_on client.now effect.now self.old else self.old)) }
         ensures memory { OnErr result (self.new ≡ self.old) }

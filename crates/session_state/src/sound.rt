@@ -120,7 +120,8 @@ pub(crate) fn hold_subs(subs: &[Sub], versions: &[Version]) -> bool
 
 // Whether each live subscription's version is held.
 pub(crate) fn hold_present(versions: &[Version], subs: &[Sub]) -> bool
-    ensures { result ≡ list_all (λ (s : KeptSub). not s.live || holds_version versions.now s.version) subs.now }
+    ensures { result
+        ≡ list_all (λ (s : KeptSub). not s.live || holds_version versions.now s.version) subs.now }
 {
     subs.iter()
         .all(|sub| !sub.live || holds_version(versions, sub.version))

@@ -57,7 +57,8 @@ fn set_one_version(sub: &mut Sub, number: u32, version: u32)
 
 // Those with this number have ended.
 pub(crate) fn end_sub(subs: &mut [Sub], number: u32)
-    ensures { subs.new ≡ on_sub number (λ (s : KeptSub). record s { live = false; sweeps = [] }) subs.old }
+    ensures { subs.new
+        ≡ on_sub number (λ (s : KeptSub). record s { live = false; sweeps = [] }) subs.old }
 {
     for sub in subs.iter_mut() {
         end_one(sub, number);
@@ -76,7 +77,8 @@ fn end_one(sub: &mut Sub, number: u32)
 
 // Those with this number are in a shard at this sweep from now on.
 pub(crate) fn set_sweep(subs: &mut [Sub], number: u32, shard: u8, sweep: Sweep)
-    ensures { subs.new ≡ on_sub number (λ (s : KeptSub). record s { sweeps = slice_set s.sweeps shard sweep }) subs.old }
+    ensures { subs.new
+        ≡ on_sub number (λ (s : KeptSub). record s { sweeps = slice_set s.sweeps shard sweep }) subs.old }
 {
     for sub in subs.iter_mut() {
         set_one_sweep(sub, number, shard, sweep);

@@ -15,7 +15,8 @@ impl Session {
     /// the session changes nothing in it. On want of memory nothing changes.
     pub fn change(&mut self, effect: &Effect) -> Result<bool, AllocError>
         ensures fits { IfOk result (λ fits. fits ≡ session_fits whole self.old effect.now) }
-        ensures changed { IfOk result (λ fits. self.new ≡ (if fits then kept_changed effect.now self.old else self.old)) }
+        ensures changed { IfOk result (λ fits. self.new
+            ≡ (if fits then kept_changed effect.now self.old else self.old)) }
         ensures memory { OnErr result (self.new ≡ self.old) }
     {
         if !self.fits(effect) {
@@ -77,6 +78,7 @@ impl Session {
         ensures made { OnOk result (self.new ≡ kept_changed (Effect.Subscribed new.now) self.old) }
         ensures memory { OnErr result (self.new ≡ self.old) }
     {
+        let _order = self.tracks.done();
         let sub = new_sub(new)?;
         let version = Version {
             number: new.version,
@@ -93,9 +95,11 @@ impl Session {
     // A subscription gets a new version.
     fn replace(&mut self, replaced: &Replaced) -> Result<(), AllocError>
         requires { IsTrue (session_fits whole self.old (Effect.Replaced replaced.now)) }
-        ensures made { OnOk result (self.new ≡ kept_changed (Effect.Replaced replaced.now) self.old) }
+        ensures made { OnOk result (self.new
+            ≡ kept_changed (Effect.Replaced replaced.now) self.old) }
         ensures memory { OnErr result (self.new ≡ self.old) }
     {
+        let _order = self.tracks.done();
         let version = Version {
             number: replaced.version,
             subscription: replaced.subscription,
@@ -113,6 +117,7 @@ impl Session {
         requires { IsTrue (session_fits whole self.old (Effect.Unsubscribed number)) }
         ensures { self.new ≡ kept_changed (Effect.Unsubscribed number) self.old }
     {
+        let _order = self.tracks.done();
         end_sub(&mut self.subs, number);
         drop_unneeded(&self.batches, &mut self.versions, &mut self.subs);
     }
@@ -122,6 +127,7 @@ impl Session {
         ensures made { OnOk result (self.new ≡ kept_changed (Effect.Issued issued.now) self.old) }
         ensures memory { OnErr result (self.new ≡ self.old) }
     {
+        let _order = self.tracks.done();
         let batch = issued.batch;
         self.batches.push(batch)?;
         self.tracks.issue(batch.count1, batch.count2);
@@ -144,6 +150,7 @@ impl Session {
         requires { IsTrue (session_fits whole self.old (Effect.Acked number)) }
         ensures { self.new ≡ kept_changed (Effect.Acked number) self.old }
     {
+        let _order = self.tracks.done();
         self.tracks.puback(number);
         tidy(
             &self.tracks,
@@ -157,6 +164,7 @@ impl Session {
         requires { IsTrue (session_fits whole self.old (Effect.Received number)) }
         ensures { self.new ≡ kept_changed (Effect.Received number) self.old }
     {
+        let _order = self.tracks.done();
         self.tracks.pubrec(number);
         tidy(
             &self.tracks,
@@ -170,6 +178,7 @@ impl Session {
         requires { IsTrue (session_fits whole self.old (Effect.Done number)) }
         ensures { self.new ≡ kept_changed (Effect.Done number) self.old }
     {
+        let _order = self.tracks.done();
         self.tracks.pubcomp(number);
         tidy(
             &self.tracks,
@@ -183,6 +192,7 @@ impl Session {
         requires { IsTrue (session_fits whole self.old (Effect.Passed passed.now)) }
         ensures { self.new ≡ kept_changed (Effect.Passed passed.now) self.old }
     {
+        let _order = self.tracks.done();
         self.tracks.pass(passed.track, passed.number);
         tidy(
             &self.tracks,
@@ -200,7 +210,8 @@ fn push_both(
     sub: Sub,
     version: Version,
 ) -> Result<(), AllocError>
-    ensures subs { subs.new.items ≡ (if is_ok result then subs.old.items ++ sub ∷ [] else subs.old.items) }
+    ensures subs { subs.new.items
+        ≡ (if is_ok result then subs.old.items ++ sub ∷ [] else subs.old.items) }
     ensures versions { versions.new.items
         ≡ (if is_ok result then versions.old.items ++ version ∷ [] else versions.old.items) }
 {

@@ -63,7 +63,9 @@ fn is_wide(session: &Session) -> bool
 
 // Whether the number of each lies below one.
 pub(crate) fn are_below(map: &IndexMap<Name, Session>, incarnation: u64) -> bool
-    ensures { result ≡ list_all (λ (m : KeptSession). nat_lt m.incarnation incarnation) (sessions_in map.now.entries) }
+    ensures { result
+        ≡ list_all (λ (m : KeptSession). nat_lt m.incarnation incarnation)
+        (sessions_in map.now.entries) }
 {
     for session in map.values() {
         if incarnation <= session.incarnation() {
@@ -81,9 +83,11 @@ pub(crate) fn add_to(
 ) -> Result<(), AllocError>
     requires keyed { AreKeyed map.old.entries }
     requires client { key ≡ session.client }
-    requires absent { IsNone (find (λ (m : KeptSession). bytes_eq m.client key) (sessions_in map.old.entries)) }
+    requires absent { IsNone (find (λ (m : KeptSession). bytes_eq m.client key)
+        (sessions_in map.old.entries)) }
     ensures keyed { AreKeyed map.new.entries }
-    ensures added { OnOk result (sessions_in map.new.entries ≡ sessions_in map.old.entries ++ session ∷ []) }
+    ensures added { OnOk result (sessions_in map.new.entries
+        ≡ sessions_in map.old.entries ++ session ∷ []) }
     ensures memory { OnErr result (sessions_in map.new.entries ≡ sessions_in map.old.entries) }
 {
     map.insert(key, session)?;
@@ -94,8 +98,11 @@ pub(crate) fn add_to(
 pub(crate) fn remove_from(map: &mut IndexMap<Name, Session>, client: &Name) -> bool
     requires { AreKeyed map.old.entries }
     ensures keyed { AreKeyed map.new.entries }
-    ensures found { result ≡ is_some (find (λ (m : KeptSession). bytes_eq m.client client.now) (sessions_in map.old.entries)) }
-    ensures removed { sessions_in map.new.entries ≡ without_session client.now (sessions_in map.old.entries) }
+    ensures found { result
+        ≡ is_some (find (λ (m : KeptSession). bytes_eq m.client client.now)
+        (sessions_in map.old.entries)) }
+    ensures removed { sessions_in map.new.entries
+        ≡ without_session client.now (sessions_in map.old.entries) }
 {
     let _place = map.get_index_of(client);
     map.shift_remove(client).is_some()

@@ -1,4 +1,4 @@
-use Rattle.std.proofs.Common.{◌≡◌, ◌∙◌, ap, ◌-◌, ◌+◌, ◌^◌, min}
+use Rattle.std.proofs.Common.{◌∙◌, ap, ◌-◌, ◌+◌, ◌^◌, min}
 use Rattle.std.specs.List.{list_any}
 use Rattle.session_terms.specs.Acting.{numbers_from}
 use Rattle.seq_tracks.specs.PlainTracks.{is_unfinished}

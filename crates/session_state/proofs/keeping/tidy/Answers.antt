@@ -1,5 +1,5 @@
-use Rattle.std.proofs.Common.{◌≡◌, ◌∙◌, sym, ap, ◌≤◌, length, arith}
-use Rattle.session_state.specs.KeptActing.{has_unfinished, kept_batches, kept_versions}
+use Rattle.std.proofs.Common.{◌∙◌, sym, ap, length, arith}
+use Rattle.session_state.specs.KeptActing.{has_unfinished, kept_versions}
 use Rattle.session_state.specs.FilterLaws.{filter_whole}
 use Rattle.session_state.proofs.keeping.tidy.Goals as goal
 

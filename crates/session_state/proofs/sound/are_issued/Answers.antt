@@ -1,4 +1,4 @@
-use Rattle.std.proofs.Common.{◌≡◌, ◌<◌, ◌+◌, ◌^◌, get_or, arith}
+use Rattle.std.proofs.Common.{get_or, arith}
 use Rattle.session_state.specs.declared.batch.Batch.{Batch}
 use Rattle.session_state.proofs.SoundLemmas.{run_fits}
 use Rattle.session_state.proofs.sound.are_issued.Goals as goal

@@ -1,4 +1,4 @@
-use Rattle.std.proofs.Common.{◌≡◌, ℕ, ◌||◌, not, sym, ◌∙◌}
+use Rattle.std.proofs.Common.{ℕ, ◌||◌, not, sym, ◌∙◌}
 use Rattle.seq_tracks.specs.PlainTracks.{is_unfinished2}
 use Rattle.session_state.specs.SoundTest.{each_lies2, lies_in_one2}
 use Rattle.session_state.proofs.SoundLemmas.{all_so_far, not_all}

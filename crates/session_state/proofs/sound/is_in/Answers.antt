@@ -1,7 +1,5 @@
 use Rattle.std.proofs.Common.{◌≡◌, ℕ, ◌+◌, ◌-◌, ◌≤◌, ◌<◌, ◌&&◌, nat_le, nat_lt, sym, ap, ◌∙◌, arith}
 use Rattle.std.proofs.lemmas.Bool.Decides.{nat_tests}
-use Rattle.session_terms.specs.Acting.{numbers_from}
-use Rattle.session_terms.specs.DoneLaws.{has}
 use Rattle.seq_tracks.specs.ListLaws.{has-from}
 use Rattle.session_state.proofs.sound.is_in.Goals as goal
 

@@ -1,4 +1,4 @@
-use Rattle.std.proofs.Common.{◌≡◌, ◌++◌, [], false, take, drop, slice_set}
+use Rattle.std.proofs.Common.{◌≡◌, ◌++◌, [], false, take, drop}
 use Rattle.session_state.specs.KeptSub.{KeptSub}
 use Rattle.session_state.specs.KeptActing.{on_sub}
 use Rattle.session_state.proofs.subs.end_sub.Given as goal

@@ -1,14 +1,12 @@
-use Rattle.std.proofs.Common.{◌≡◌, ℕ, Bool, true, ◌&&◌, ◌+◌, ◌≤◌, ◌<◌, ◌^◌, nat_le, nat_lt, length, is_none, ap, sym, ◌∙◌, arith}
-use Rattle.std.proofs.lemmas.Bool.{and_parts, leb-true}
+use Rattle.std.proofs.Common.{◌≡◌, ℕ, ◌&&◌, ◌+◌, nat_le, nat_lt, length, is_none, ap, sym, ◌∙◌, arith}
 use Rattle.topic_terms.specs.Profile.{whole}
 use Rattle.topic_terms.specs.Levels.{text_of_levels}
 use Rattle.topic_terms.specs.Texts.{filter_refusal}
 use Rattle.session_terms.specs.Change.{Subscribes}
-use Rattle.seq_tracks.specs.PlainTracks.{in_use}
 use Rattle.session_state.specs.declared.change.Effect.TheVariants.{Subscribed}
 use Rattle.session_state.specs.KeptSession.{KeptSession}
 use Rattle.session_state.specs.KeptActing.{kept_changed}
-use Rattle.session_state.specs.KeptFits.{kept_within, is_window, subs_within, live_count, has_filters, text_bytes}
+use Rattle.session_state.specs.KeptFits.{kept_within, live_count, text_bytes}
 use Rattle.session_state.specs.KeptView.{kept_of}
 use Rattle.session_state.specs.LimitLaws.{few_bytes}
 use Rattle.session_state.specs.AddLaws.{subscribed_within}

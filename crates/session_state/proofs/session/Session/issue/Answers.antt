@@ -1,10 +1,9 @@
-use Rattle.std.proofs.Common.{◌≡◌, refl, ap, subst, sym, ◌∙◌}
+use Rattle.std.proofs.Common.{refl, ap, sym, ◌∙◌}
 use Rattle.session_state.specs.declared.change.Effect.TheVariants.{Issued}
-use Rattle.session_state.specs.KeptActing.{kept_changed, kept_batches, kept_versions, kept_subs, on_sub, with_effect}
+use Rattle.session_state.specs.KeptActing.{kept_changed, on_sub, with_effect}
 use Rattle.session_state.specs.KeptView.{kept_of}
-use Rattle.session_state.specs.Sound.{IsSound}
-use Rattle.session_state.specs.AddLaws.{sound_changed, issued_needs_versions, issued_needs_subs}
-use Rattle.session_state.proofs.ChangeLemmas.{lent_back, tidied_of}
+use Rattle.session_state.specs.AddLaws.{issued_needs_versions, issued_needs_subs}
+use Rattle.session_state.proofs.ChangeLemmas.{sound_by, lent_back, tidied_of}
 use Rattle.session_state.proofs.session.Session.issue.Goals as goal
 
 pub tidy-requires-clause-versions : goal.tidy-requires-clause-versions
@@ -30,4 +29,6 @@ returns-clause-made c =
     ∙ ap (kept_changed (Issued c.args.issued.now)) c.self.view_is
 
 pub invariant_of-self-2 : goal.invariant_of-self-2
-invariant_of-self-2 c = subst IsSound (sym (returns-clause-made c)) (sound_changed c.args.self.now (Issued c.args.issued.now) c.requires)
+invariant_of-self-2 c =
+    sound_by (kept_of c.self.inside) c.args.self.now (Issued c.args.issued.now) _ c.self.view_is c.requires c.self.invariant c.done-order.ensures.order
+    (returns-clause-made c ∙ ap (kept_changed (Issued c.args.issued.now)) (sym c.self.view_is))

@@ -1,4 +1,4 @@
-use Rattle.std.proofs.Common.{◌≡◌, ap, sym, ◌∙◌}
+use Rattle.std.proofs.Common.{ap, sym, ◌∙◌}
 use Rattle.session_state.specs.KeptSession.{KeptSession}
 use Rattle.session_state.specs.SoundTest.{is_sound}
 use Rattle.session_state.specs.SoundLaws.{sound_from_test}

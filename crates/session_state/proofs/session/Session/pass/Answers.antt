@@ -5,5 +5,5 @@ use Rattle.session_state.proofs.session.Session.pass.Goals as goal
 
 pub invariant_of-self : goal.invariant_of-self
 invariant_of-self c =
-    sound_by (kept_of c.self.inside) c.args.self.now (Passed c.args.passed.now) _ c.self.view_is c.requires
+    sound_by (kept_of c.self.inside) c.args.self.now (Passed c.args.passed.now) _ c.self.view_is c.requires c.self.invariant c.done-order.ensures.order
     (tidied_with (kept_of c.self.inside) _ _ _ _ _ c.pass.ensures c.tidy.ensures.batches c.tidy.ensures.versions c.tidy.ensures.subs)

@@ -1,10 +1,8 @@
-use Rattle.std.proofs.Common.{◌≡◌, refl, ap, subst, sym, ◌∙◌}
+use Rattle.std.proofs.Common.{refl, ap, sym, ◌∙◌}
 use Rattle.session_state.specs.declared.change.Effect.TheVariants.{Replaced}
-use Rattle.session_state.specs.KeptActing.{kept_changed, kept_versions, on_sub, with_effect}
+use Rattle.session_state.specs.KeptActing.{kept_changed, on_sub, with_effect}
 use Rattle.session_state.specs.KeptView.{kept_of}
-use Rattle.session_state.specs.Sound.{IsSound}
-use Rattle.session_state.specs.AddLaws.{sound_changed}
-use Rattle.session_state.proofs.ChangeLemmas.{lent_back, tidied_of}
+use Rattle.session_state.proofs.ChangeLemmas.{sound_by, lent_back, tidied_of}
 use Rattle.session_state.proofs.session.Session.replace.Goals as goal
 
 pub returns-clause-made : goal.returns-clause-made
@@ -18,4 +16,6 @@ returns-clause-made c =
     ∙ ap (kept_changed (Replaced c.args.replaced.now)) c.self.view_is
 
 pub invariant_of-self-2 : goal.invariant_of-self-2
-invariant_of-self-2 c = subst IsSound (sym (returns-clause-made c)) (sound_changed c.args.self.now (Replaced c.args.replaced.now) c.requires)
+invariant_of-self-2 c =
+    sound_by (kept_of c.self.inside) c.args.self.now (Replaced c.args.replaced.now) _ c.self.view_is c.requires c.self.invariant c.done-order.ensures.order
+    (returns-clause-made c ∙ ap (kept_changed (Replaced c.args.replaced.now)) (sym c.self.view_is))

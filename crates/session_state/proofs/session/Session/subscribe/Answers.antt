@@ -1,10 +1,9 @@
-use Rattle.std.proofs.Common.{◌≡◌, refl, ap, subst, sym, ◌∙◌, ◌++◌, ◌∷◌, []}
+use Rattle.std.proofs.Common.{ap, sym, ◌∙◌, ◌++◌, ◌∷◌, []}
 use Rattle.session_state.specs.declared.change.Effect.TheVariants.{Subscribed}
-use Rattle.session_state.specs.KeptActing.{kept_changed, subscribed_kept}
+use Rattle.session_state.specs.KeptActing.{kept_changed}
 use Rattle.session_state.specs.KeptView.{kept_of}
-use Rattle.session_state.specs.Sound.{IsSound}
-use Rattle.session_state.specs.AddLaws.{sound_changed, subscribed_stays}
-use Rattle.session_state.proofs.ChangeLemmas.{with_both}
+use Rattle.session_state.specs.AddLaws.{subscribed_stays}
+use Rattle.session_state.proofs.ChangeLemmas.{sound_by, with_both}
 use Rattle.session_state.proofs.session.Session.subscribe.Goals as goal
 
 pub returns-clause-made : goal.returns-clause-made
@@ -15,4 +14,6 @@ returns-clause-made c =
     ∙ ap (kept_changed (Subscribed c.args.new.now)) c.self.view_is
 
 pub invariant_of-self-2 : goal.invariant_of-self-2
-invariant_of-self-2 c = subst IsSound (sym (returns-clause-made c)) (sound_changed c.args.self.now (Subscribed c.args.new.now) c.requires)
+invariant_of-self-2 c =
+    sound_by (kept_of c.self.inside) c.args.self.now (Subscribed c.args.new.now) _ c.self.view_is c.requires c.self.invariant c.done-order.ensures.order
+    (returns-clause-made c ∙ ap (kept_changed (Subscribed c.args.new.now)) (sym c.self.view_is))

@@ -1,10 +1,8 @@
-use Rattle.std.proofs.Common.{◌≡◌, refl, ap, subst, sym, ◌∙◌}
+use Rattle.std.proofs.Common.{refl, ap, sym, ◌∙◌}
 use Rattle.session_state.specs.declared.change.Effect.TheVariants.{Unsubscribed}
-use Rattle.session_state.specs.KeptActing.{kept_changed, kept_versions, on_sub, with_effect}
+use Rattle.session_state.specs.KeptActing.{kept_changed, on_sub, with_effect}
 use Rattle.session_state.specs.KeptView.{kept_of}
-use Rattle.session_state.specs.Sound.{IsSound}
-use Rattle.session_state.specs.AddLaws.{sound_changed}
-use Rattle.session_state.proofs.ChangeLemmas.{lent_back, tidied_of}
+use Rattle.session_state.proofs.ChangeLemmas.{sound_by, lent_back, tidied_of}
 use Rattle.session_state.proofs.session.Session.unsubscribe.Goals as goal
 
 pub returns : goal.returns
@@ -18,4 +16,6 @@ returns c =
     ∙ ap (kept_changed (Unsubscribed c.args.number)) c.self.view_is
 
 pub invariant_of-self : goal.invariant_of-self
-invariant_of-self c = subst IsSound (sym (returns c)) (sound_changed c.args.self.now (Unsubscribed c.args.number) c.requires)
+invariant_of-self c =
+    sound_by (kept_of c.self.inside) c.args.self.now (Unsubscribed c.args.number) _ c.self.view_is c.requires c.self.invariant c.done-order.ensures.order
+    (returns c ∙ ap (kept_changed (Unsubscribed c.args.number)) (sym c.self.view_is))

@@ -1,4 +1,4 @@
-use Rattle.std.proofs.Common.{◌≡◌, sym, subst, ap, ◌∙◌}
+use Rattle.std.proofs.Common.{ap, ◌∙◌}
 use Rattle.topic_terms.specs.Profile.{whole}
 use Rattle.session_state.specs.KeptSession.{KeptSessions, sessions_in}
 use Rattle.session_state.specs.KeptActing.{change_of}

@@ -1,4 +1,4 @@
-use Rattle.std.proofs.Common.{◌≡◌, ℕ, Bool, true, false, List, if◌then◌else◌, refl, sym, subst, ap, ◌∙◌}
+use Rattle.std.proofs.Common.{◌≡◌, ℕ, Bool, true, false, List, if◌then◌else◌, refl, ap, ◌∙◌}
 use Rattle.topic_terms.specs.Profile.{whole}
 use Rattle.session_state.specs.declared.change.Effect.TheVariants.{Ended}
 use Rattle.session_state.specs.KeptSession.{KeptSessions, sessions_in}

@@ -1,4 +1,4 @@
-use Rattle.std.proofs.Common.{◌≡◌, sym, subst, ap, ◌∙◌, bytes_eq}
+use Rattle.std.proofs.Common.{sym, subst, ap, ◌∙◌, bytes_eq}
 use Rattle.indexmap.proofs.CallerLemmas.{insert_entry-new}
 use Rattle.session_state.specs.KeptSession.{AreKeyed, sessions_in}
 use Rattle.session_state.proofs.EntryLemmas.{keyed_more, lookup_of, is_none_is, sessions_more}

@@ -1,5 +1,5 @@
-use Rattle.std.proofs.Common.{◌≡◌, Some, None, false, sym, subst, ap, ◌∙◌}
-use Rattle.session_state.specs.KeptSession.{AreKeyed, sessions_in}
+use Rattle.std.proofs.Common.{Some, None, false, sym, subst, ◌∙◌}
+use Rattle.session_state.specs.KeptSession.{AreKeyed}
 use Rattle.session_state.proofs.EntryLemmas.{change_made, fits_found, on_err, keyed_written, same_client}
 use Rattle.session_state.proofs.sessions.acting.change_in.Goals as goal
 

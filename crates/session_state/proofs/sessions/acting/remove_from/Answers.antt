@@ -1,4 +1,4 @@
-use Rattle.std.proofs.Common.{◌≡◌, sym, subst, ap, ◌∙◌, is_some}
+use Rattle.std.proofs.Common.{sym, subst, ap, ◌∙◌, is_some}
 use Rattle.session_state.specs.KeptSession.{AreKeyed, sessions_in}
 use Rattle.session_state.proofs.EntryLemmas.{keyed_removed, lookup_of, removed_without}
 use Rattle.session_state.proofs.sessions.acting.remove_from.Goals as goal

@@ -1,0 +1,27 @@
+use Rattle.std.proofs.Common.{◌+◌, ◌-◌, drop, arith}
+use Rattle.std.proofs.lemmas.Result.{err_from_is_err_and}
+use Rattle.session_codec.specs.Reading.{sweep_at}
+use Rattle.session_codec.specs.PartLaws.{none_map, so_far_none, so_far_more, so_far_missing, so_far_all}
+use Rattle.session_codec.proofs.parts.sweeps_in.Goals as goal
+
+pub loop-init : goal.loop-init
+loop-init c = rw c.new-sweeps.ensures.items (so_far_none (sweep_at) c.args.count (drop c.args.at.now c.args.bytes.now) (c.args.count - 0) (omega arith))
+
+pub returns-in_err-sweep : goal.returns-in_err-sweep
+returns-in_err-sweep c =
+    let p = err_from_is_err_and c.from_residual.result c.from_residual.ensures.1 in
+    rw (p.1, p.2) record {
+      exact = none_map c.in_err-sweep.field-0.0 _ _
+          (so_far_missing (sweep_at) c.args.count (drop c.args.at.now c.args.bytes.now) c.loop.sweeps.items (c.args.count - c.loop.counter) (c.args.count - (c.loop.counter + 1)) (drop c.loop.at c.args.bytes.now) (omega arith) c.loop.invariant)
+          c.in_err-sweep.ensures.exact;
+    }
+
+pub loop-preserved : goal.loop-preserved
+loop-preserved c =
+    rw c.in_ok-push.ensures.items
+    (so_far_more (sweep_at) c.args.count (drop c.args.at.now c.args.bytes.now) c.loop.sweeps.items (c.args.count - c.loop.counter) (c.args.count - (c.loop.counter + 1)) (drop c.loop.at c.args.bytes.now) (c.in_ok-sweep.sweep, drop c.sweep_in.new.at c.args.bytes.now) (omega arith) c.loop.invariant
+    c.in_ok-sweep.ensures.exact)
+
+pub returns : goal.returns
+returns c =
+    record { exact = so_far_all (sweep_at) c.args.count (drop c.args.at.now c.args.bytes.now) c.loop.sweeps.items (c.args.count - c.loop.counter) (drop c.loop.at c.args.bytes.now) (omega arith) c.loop.invariant }
