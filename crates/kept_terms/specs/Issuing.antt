@@ -9,6 +9,7 @@ use Rattle.shard_terms.specs.Wanted.{wanted}
 use Rattle.shard_terms.specs.PlaceLaws.{HasPlace}
 use Rattle.shard_terms.specs.SweepOrder.{starting_sweep, is_issued_by, is_in_order}
 use Rattle.shard_terms.specs.Lists.{IsList}
+use Rattle.shard_terms.specs.Growing.{HasGrown}
 use Rattle.session_terms.specs.declared.entry.Entry.{Entry}
 use Rattle.session_terms.specs.declared.entry.Version.{Version}
 use Rattle.session_terms.specs.Entry.{numbers1, numbers2}
@@ -108,3 +109,17 @@ IsOver profile lists m other entries = Unit {0}
 
 abbrev pub AreOver : Profile → List ShardList → Sessions → Change → List Entry → Type 0
 AreOver profile lists plain c entries = (m : PlainSession) → session_of c.client plain ≡ Some m → IsOver profile lists m c.effect entries
+
+-- ---- lists that grow
+
+-- a list has grown from one before, and both are in order
+pub record GrewFrom (lists : List ShardList) (shard : ℕ) (later : ShardList) : Type 0 where
+  pub list : ShardList
+  pub has : slice_get lists shard ≡ Some list
+  pub is : IsList list
+  pub is_later : IsList later
+  pub grown : HasGrown list later
+
+-- each of the later lists has grown from that of its shard before
+abbrev pub HaveGrown : List ShardList → List ShardList → Type 0
+HaveGrown lists latest = (shard : ℕ) (later : ShardList) → slice_get latest shard ≡ Some later → GrewFrom lists shard later

@@ -23,3 +23,4 @@ pub mod StandIssueLaws
 pub mod SessionStandLaws
 pub mod BatchFitLaws
 pub mod ReadyLaws
+pub mod GrowLaws

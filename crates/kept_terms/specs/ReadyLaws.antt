@@ -6,13 +6,12 @@ use Rattle.topic_terms.specs.Profile.{Profile}
 use Rattle.shard_terms.specs.declared.sweep.Sweep.{Sweep}
 use Rattle.shard_terms.specs.ShardList.{ShardList}
 use Rattle.shard_terms.specs.PlaceLaws.{HasPlace, place_either}
-use Rattle.session_terms.specs.declared.entry.Version.{Version}
 use Rattle.session_terms.specs.PlainSession.{PlainSession, Subscription}
 use Rattle.session_state.specs.KeptSession.{KeptSession}
 use Rattle.turn_terms.specs.PlainConnection.{PlainConnection}
-use Rattle.turn_terms.specs.Pump.{Pair, pairs_with, pairs_of}
-use Rattle.turn_terms.specs.Pumping.{AreReady, IsReady, issuing_pair}
-use Rattle.kept_terms.specs.StandFor.{IsServed, StandsFor}
+use Rattle.turn_terms.specs.Pump.{Pair, pairs_with}
+use Rattle.turn_terms.specs.Pumping.{AreReady}
+use Rattle.kept_terms.specs.StandFor.{StandsFor}
 use Rattle.kept_terms.specs.Issuing.{AreLists}
 
 -- a pair at its place has the start and the sweep there

@@ -1,5 +1,5 @@
 -- How a kept session stands for a plain one, and the kept sessions of a worker for plain ones.
-use Rattle.std.specs.Prelude.{ℕ, ◌≡◌, Bool, true, false, ◌&&◌, ◌==◌, nat_le, nat_lt, List, [], ◌∷◌, ◌++◌, length, map, slice_get, Option, Some, None}
+use Rattle.std.specs.Prelude.{◌≤◌, ℕ, ◌≡◌, Bool, true, false, ◌&&◌, ◌==◌, nat_le, nat_lt, List, [], ◌∷◌, ◌++◌, length, map, slice_get, Option, Some, None}
 use Rattle.std.specs.List.{flat_map, list_any, list_all}
 use Rattle.std.specs.Str.{bytes_eq}
 use Rattle.topic_terms.specs.Profile.{Profile}
@@ -111,6 +111,14 @@ abbrev pub AreReadAgain : Profile → List ShardList → PlainSession → List G
 AreReadAgain profile lists plain [] = Unit {0}
 AreReadAgain profile lists plain (g ∷ gs) = IsReadAgain profile lists plain g × AreReadAgain profile lists plain gs
 
+-- no batch goes past the end of its shard's list
+abbrev pub EndsWithin : List ShardList → Group → Type 0
+EndsWithin lists g = (list : ShardList) → slice_get lists g.batch.shard ≡ Some list → g.batch.to ≤ next_of list
+
+abbrev pub AllEndWithin : List ShardList → List Group → Type 0
+AllEndWithin lists [] = Unit {0}
+AllEndWithin lists (g ∷ gs) = EndsWithin lists g × AllEndWithin lists gs
+
 -- a pair of a live subscription and a shard with this list
 pub record IsServed (lists : List ShardList) (plain : PlainSession) (p : Pair) (list : ShardList) : Type 0 where
   pub has_subscription : HasPlace plain.subscriptions p.subscription
@@ -161,6 +169,7 @@ pub record StandsFor (profile : Profile) (lists : List ShardList) (kept : KeptSe
   pub groups : List Group
   pub keeps : Keeps kept plain groups
   pub again : AreReadAgain profile lists plain groups
+  pub ends : AllEndWithin lists groups
   pub counted : (p : Pair) (list : ShardList) → IsServed lists plain p list → IsCounted profile plain p list
   pub within : (shard : ℕ) (list : ShardList) → slice_get lists shard ≡ Some list → IsWithin kept shard list
 

@@ -1,7 +1,7 @@
 -- A batch that may be issued over the lists leaves a kept session that stands for the plain one.
 use Rattle.std.proofs.Common.{◌≡◌, ◌⊎◌, inl, inr, ℕ, zero, suc, ◌==◌, Bool, true, false, ◌&&◌, ◌||◌, nat_le, nat_lt, List, [], ◌∷◌, ◌++◌, slice_get, slice_set, Some, true≢false, refl, sym, ap, subst, ◌∙◌}
 use Rattle.std.specs.List.{list_all, list_any}
-use Rattle.std.proofs.lemmas.Bool.{and_from, and_parts, and_left, and_right, or_from, eqb-true, eq-eqb, ne_eqb, cases_eq}
+use Rattle.std.proofs.lemmas.Bool.{leb-true, and_from, and_parts, and_left, and_right, or_from, eqb-true, eq-eqb, ne_eqb, cases_eq}
 use Rattle.std.proofs.lemmas.List.Folds.{list_any-append}
 use Rattle.std.proofs.lemmas.Option.{none-some, same_Some}
 use Rattle.topic_terms.specs.Profile.{Profile}
@@ -22,13 +22,13 @@ use Rattle.session_state.specs.KeptSession.{KeptSession}
 use Rattle.session_state.specs.KeptActing.{tidied, issued_kept}
 use Rattle.turn_terms.specs.Pump.{Pair}
 use Rattle.turn_terms.specs.MayIssue.{is_issue_of}
-use Rattle.kept_terms.specs.StandFor.{Group, IsGroup, is_entry_of, IsServed, IsCounted, IsWithin, StandsFor, sweep_positions, batch_positions, batch_generations}
+use Rattle.kept_terms.specs.StandFor.{EndsWithin, Group, IsGroup, is_entry_of, IsServed, IsCounted, IsWithin, StandsFor, sweep_positions, batch_positions, batch_generations}
 use Rattle.kept_terms.specs.Issuing.{IsBatch, IsBatchOver}
 use Rattle.kept_terms.specs.ChangeLaws.{change_keeps}
 use Rattle.kept_terms.specs.OneSubLaws.{changed_at, on_is_map}
 use Rattle.kept_terms.specs.IssueLaws.{plain_issues, moved, issued_change}
 use Rattle.kept_terms.specs.WithinLaws.{PartsWithin, within_parts, tidied_within, all_changed, all_pushed}
-use Rattle.kept_terms.specs.StandLaws.{again_stays, again_append}
+use Rattle.kept_terms.specs.StandLaws.{again_stays, again_append, ends_append}
 
 -- ---- an element that is set
 
@@ -227,6 +227,13 @@ group_of m i entries is =
       track2 = is.track2;
     }
 
+batch_ends : (lists : List ShardList) (m : PlainSession) (i : Issuing) (entries : List Entry) (profile : Profile) → IsBatchOver profile lists m i entries →
+    EndsWithin lists (record { batch = i.batch; entries = entries })
+batch_ends lists m i entries profile is list has =
+    let both = and_parts (list_all (λ (n : ℕ). nat_le n (next_of list)) (sweep_positions (Some i.sweep))) (list_all (λ (n : ℕ). nat_le n (next_of list)) (batch_positions true i.batch)) (is.positions list has) in
+    let later = and_parts (nat_le i.batch.from (next_of list)) (nat_le i.batch.to (next_of list) && true) both.1 in
+    leb-true i.batch.to (next_of list) (and_parts (nat_le i.batch.to (next_of list)) true later.1).0
+
 pub issued_stands : (profile : Profile) (lists : List ShardList) (k : KeptSession) (m : PlainSession) (i : Issuing) (entries : List Entry) → StandsFor profile lists k m →
     suits m (session.Issued (plain_issues i entries)) ≡ true → IsBatchOver profile lists m i entries → StandsFor profile lists (tidied (issued_kept i k)) (issued_session (plain_issues i entries) m)
 issued_stands profile lists k m i entries h fit is =
@@ -239,6 +246,7 @@ issued_stands profile lists k m i entries h fit is =
       again =
           again_append profile lists later h.groups (g ∷ []) (again_stays profile lists k (issued_kept i k) m later (g ∷ []) c refl h.groups h.keeps.are_groups h.again)
           (again_stays profile lists k (issued_kept i k) m later (g ∷ []) c refl (g ∷ []) (group_of m i entries is.batch, tt) (is.again, tt));
+      ends = ends_append lists h.groups (g ∷ []) h.ends (batch_ends lists m i entries profile is, tt);
       counted = issued_counted profile lists m i entries is h.counted;
       within = λ shard list has. issued_within profile lists k m i entries is shard list has (h.within shard list has);
     }

@@ -18,7 +18,7 @@ use Rattle.session_state.specs.KeptSession.{KeptSession, begun_kept}
 use Rattle.session_state.specs.KeptActing.{with_effect, kept_changed}
 use Rattle.turn_terms.specs.Pump.{Pair}
 use Rattle.kept_terms.specs.PlainChange.{plain_effect}
-use Rattle.kept_terms.specs.StandFor.{Group, AreGroups, IsReadAgain, AreReadAgain, IsServed, IsCounted, IsWithin, StandsFor, sweep_positions}
+use Rattle.kept_terms.specs.StandFor.{Group, AreGroups, IsReadAgain, AreReadAgain, AllEndWithin, IsServed, IsCounted, IsWithin, StandsFor, sweep_positions}
 use Rattle.kept_terms.specs.ReadAgain.{entries_again}
 use Rattle.kept_terms.specs.Issuing.{AreLists, StartsAt, is_no_batch, new_groups}
 use Rattle.kept_terms.specs.ChangeLaws.{IsChange, version_found, subscription_found}
@@ -37,6 +37,7 @@ begun_stands profile lists client incarnation expiry window =
       groups = [];
       keeps = begun_keeps client incarnation expiry window;
       again = tt;
+      ends = tt;
       counted = λ p list served. absurd (none-some p.subscription served.has_subscription.1);
       within = λ shard list has. record { positions = refl; generations = refl };
     }
@@ -70,6 +71,10 @@ pub again_append : (profile : Profile) (lists : List ShardList) (m : PlainSessio
     AreReadAgain profile lists m (gs ++ more)
 again_append profile lists m [] more are also = also
 again_append profile lists m (g ∷ gs) more are also = (are.0, again_append profile lists m gs more are.1 also)
+
+pub ends_append : (lists : List ShardList) (gs more : List Group) → AllEndWithin lists gs → AllEndWithin lists more → AllEndWithin lists (gs ++ more)
+ends_append lists [] more end also = also
+ends_append lists (g ∷ gs) more end also = (end.0, ends_append lists gs more end.1 also)
 
 -- ---- sweeps that count
 
@@ -166,6 +171,7 @@ changed_stands profile lists k m entries effect are h single fit starts =
           again_append profile lists later h.groups (new_groups effect entries)
           (again_stays profile lists k (with_effect effect k) m later (new_groups effect entries) (effect_change k m h.groups entries effect h.keeps fit is) (keeps_client (plain_effect entries effect) m) h.groups h.keeps.are_groups h.again)
           (subst (AreReadAgain profile lists later) (sym (no_groups effect entries single)) tt);
+      ends = ends_append lists h.groups (new_groups effect entries) h.ends (subst (AllEndWithin lists) (sym (no_groups effect entries single)) tt);
       counted = effect_counted profile lists m entries effect are single fit starts h.counted;
       within = λ shard list has. effect_within lists k effect shard list single starts has (h.within shard list has);
     }

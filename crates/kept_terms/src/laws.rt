@@ -21,8 +21,8 @@ ghost use Rattle.turn_terms.specs.PlainConnection.{PlainConnection};
 ghost use Rattle.turn_terms.specs.Pumping.{AreReady};
 ghost use Rattle.kept_terms.specs.ReadAgain.{again_from, kept_limit};
 ghost use Rattle.kept_terms.specs.PlainChange.{plain_effect, plain_change};
-ghost use Rattle.kept_terms.specs.StandFor.{Group, Keeps, SessionsKeep, SessionsStandFor, StandsFor};
-ghost use Rattle.kept_terms.specs.Issuing.{AreIssuedAs, AreLists, AreOver, IsIssuedAs, IsOver, IsReadyFor, is_no_batch, new_groups};
+ghost use Rattle.kept_terms.specs.StandFor.{AreReadAgain, Group, Keeps, SessionsKeep, SessionsStandFor, StandsFor};
+ghost use Rattle.kept_terms.specs.Issuing.{AreIssuedAs, AreLists, AreOver, HaveGrown, IsIssuedAs, IsOver, IsReadyFor, is_no_batch, new_groups};
 
 /// A law: a batch is read again as it was issued. Where its messages had expired alike, they are issued as they are read
 /// again with the batch's limit, which is then 0, and else the client's.
@@ -79,6 +79,14 @@ pub fn changes_go_on_to_stand()
     ensures keep { (profile : Profile) (lists : List ShardList) (kept : KeptSessions)
         (plain : Sessions) → SessionsStandFor profile lists kept plain →
         SessionsKeep kept plain }
+{}
+
+/// A law: as the lists grow, a kept session goes on to stand for a plain one, where its batches are still read again as
+/// they were issued: its sweeps stay in order and count what was issued, and no position passes an end.
+pub fn standing_stays_as_lists_grow()
+    ensures { (profile : Profile) (lists later : List ShardList) (k : KeptSession)
+        (m : PlainSession) → HaveGrown lists later → (h : StandsFor profile lists k m) →
+        AreReadAgain profile later m h.groups → StandsFor profile later k m }
 {}
 
 /// A law: where a kept session stands for a plain one over lists in order, each pair of a live subscription and a shard is

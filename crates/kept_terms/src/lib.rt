@@ -16,5 +16,6 @@ mod laws;
 
 pub use laws::{
     a_session_begins_as_a_plain_one, batches_are_read_again_as_issued, changes_are_kept,
-    changes_go_on_to_stand, kept_sessions_tell_what_fits, what_stands_is_ready_to_be_pumped,
+    changes_go_on_to_stand, kept_sessions_tell_what_fits, standing_stays_as_lists_grow,
+    what_stands_is_ready_to_be_pumped,
 };

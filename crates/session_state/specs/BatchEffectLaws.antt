@@ -1,7 +1,7 @@
 -- A batch that is issued keeps the facts of a session, and so does each change.
 use Rattle.std.proofs.Common.{◌≡◌, ◌⊎◌, inl, inr, ℕ, ◌+◌, ◌≤◌, ◌<◌, Bool, true, false, not, ◌&&◌, ◌||◌, ◌==◌, if◌then◌else◌, nat_le, nat_lt, List, [], ◌∷◌, ◌++◌, length, find, count_by, slice_get, slice_set, Option, Some, None, is_some, refl, sym, ap, ◌∙◌, true≢false, arith}
 use Rattle.std.specs.List.{list_all}
-use Rattle.std.proofs.lemmas.Bool.{and_parts, and_from, eqb-true, cases_lt}
+use Rattle.std.proofs.lemmas.Bool.{and_parts, and_from, or_cases, or_left, or_right, eqb-true, cases_lt}
 use Rattle.std.proofs.lemmas.Bool.Decides.{nat_tests}
 use Rattle.std.proofs.lemmas.List.{length-set}
 use Rattle.std.proofs.lemmas.List.Sums.{sum_by_push, sum_by-cons}
@@ -22,7 +22,7 @@ use Rattle.session_state.specs.KeptSub.{KeptSub}
 use Rattle.session_state.specs.KeptSession.{KeptSession, sub_numbered}
 use Rattle.session_state.specs.KeptActing.{issued_kept, kept_changed, numbers1_of, numbers2_of, on_sub, with_effect}
 use Rattle.session_state.specs.KeptFits.{goes_on, is_issuing, issues, kept_suits}
-use Rattle.session_state.specs.SoundTest.{are_issued, has_facts, holds_sub, holds_version, lies_in_one1, lies_in_one2, rise}
+use Rattle.session_state.specs.SoundTest.{are_issued, has_facts, holds_own, holds_sub, holds_version, lies_in_one1, lies_in_one2, rise}
 use Rattle.session_state.specs.FactLaws.{HasFacts, facts_from_test, facts_tidied, test_from_facts}
 use Rattle.session_state.specs.ListLaws.{all_weaker}
 use Rattle.session_state.specs.EffectLaws.{each_from1, each_from2, facts_acked, facts_completed, facts_passed, facts_received, lies_at1, lies_at2}
@@ -135,6 +135,17 @@ all_found p test (y ∷ xs) x all found =
     by true found own rest = ap p (sym (same_Some y x found)) ∙ own
     by false found own rest = rest found
 
+-- one of its own is one
+any_own : (versions : List Version) (s : KeptSub) → holds_own versions s.version s ≡ true → holds_version versions s.version ≡ true
+any_own [] s some = some
+any_own (v ∷ versions) s some =
+    by (or_cases ((v.number == s.version) && (v.subscription == s.number)) (holds_own versions s.version s) some) (any_own versions s)
+  where
+    by : (((v.number == s.version) && (v.subscription == s.number)) ≡ true) ⊎ (holds_own versions s.version s ≡ true) →
+        (holds_own versions s.version s ≡ true → holds_version versions s.version ≡ true) → ((v.number == s.version) || holds_version versions s.version) ≡ true
+    by (inl here) rest = or_left (v.number == s.version) (holds_version versions s.version) (and_parts (v.number == s.version) (v.subscription == s.number) here).0
+    by (inr later) rest = or_right (v.number == s.version) (holds_version versions s.version) (rest later)
+
 named_now : (m : KeptSession) (i : Issuing) → is_issuing i.batch (sub_numbered i.subscription m) ≡ true → HasFacts m → holds_version m.versions i.batch.version ≡ true
 named_now m i fits f = by (sub_numbered i.subscription m) refl fits
   where
@@ -143,8 +154,8 @@ named_now m i fits f = by (sub_numbered i.subscription m) refl fits
     by (Some s) is fits =
         let p = and_parts s.live ((s.version == i.batch.version) && is_some (slice_get s.sweeps i.batch.shard)) fits in
         let q = and_parts (s.version == i.batch.version) (is_some (slice_get s.sweeps i.batch.shard)) p.1 in
-        let held = all_found (λ (x : KeptSub). not x.live || holds_version m.versions x.version) (λ (x : KeptSub). x.number == i.subscription) m.subs s f.present is in
-        ap (holds_version m.versions) (sym (eqb-true s.version i.batch.version q.0)) ∙ sym (ap (λ l. not l || holds_version m.versions s.version) p.0) ∙ held
+        let held = all_found (λ (x : KeptSub). not x.live || holds_own m.versions x.version x) (λ (x : KeptSub). x.number == i.subscription) m.subs s f.present is in
+        ap (holds_version m.versions) (sym (eqb-true s.version i.batch.version q.0)) ∙ any_own m.versions s (sym (ap (λ l. not l || holds_own m.versions s.version s) p.0) ∙ held)
 
 -- ---- a batch is issued
 
@@ -168,7 +179,7 @@ facts_issued m i order fits f =
           all_weaker (λ (v : Version). holds_sub m.subs v.subscription) (λ (v : Version). holds_sub (on_sub i.subscription (moved i) m.subs) v.subscription) m.versions
           (λ v held. holds_on i.subscription (moved i) keeps m.subs v.subscription ∙ held) f.held;
       present =
-          all_mapped (λ (x : KeptSub). not x.live || holds_version m.versions x.version) (λ (x : KeptSub). not x.live || holds_version m.versions x.version)
+          all_mapped (λ (x : KeptSub). not x.live || holds_own m.versions x.version x) (λ (x : KeptSub). not x.live || holds_own m.versions x.version x)
           (λ (s : KeptSub). changed_if (s.number == i.subscription) (moved i) s) m.subs (λ s h. present s (s.number == i.subscription) h) f.present;
       named = all_more (λ (x : Batch). holds_version m.versions x.version) m.batches b f.named (named_now m i p.0 f);
       ended =
@@ -179,8 +190,8 @@ facts_issued m i order fits f =
       lies2 = each_from2 (issued_tracks b.count1 b.count2 t) (m.batches ++ b ∷ []) (λ n above within not_done. two n (cases_lt t.issued2 n) first2 above within not_done);
     }
   where
-    present : (s : KeptSub) (c : Bool) → (not s.live || holds_version m.versions s.version) ≡ true →
-        (not (changed_if c (moved i) s).live || holds_version m.versions (changed_if c (moved i) s).version) ≡ true
+    present : (s : KeptSub) (c : Bool) → (not s.live || holds_own m.versions s.version s) ≡ true →
+        (not (changed_if c (moved i) s).live || holds_own m.versions (changed_if c (moved i) s).version (changed_if c (moved i) s)) ≡ true
     present s true h = h
     present s false h = h
 

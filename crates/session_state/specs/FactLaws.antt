@@ -11,7 +11,7 @@ use Rattle.session_state.specs.declared.batch.Batch.{Batch}
 use Rattle.session_state.specs.KeptSub.{KeptSub}
 use Rattle.session_state.specs.KeptSession.{KeptSession}
 use Rattle.session_state.specs.KeptActing.{has_unfinished, has_version, is_named, is_present, kept_batches, kept_subs, kept_versions, numbers1_of, numbers2_of, tidied}
-use Rattle.session_state.specs.SoundTest.{are_issued, each_lies1, each_lies2, ended_rest, has_facts, has_numbers, holds_sub, holds_version, is_needed, is_wanted, lies_in_one1, lies_in_one2, names_held, rise, sub_numbers, version_numbers}
+use Rattle.session_state.specs.SoundTest.{are_issued, each_lies1, each_lies2, ended_rest, has_facts, has_numbers, holds_own, holds_sub, holds_version, is_needed, is_wanted, lies_in_one1, lies_in_one2, names_held, rise, sub_numbers, version_numbers}
 use Rattle.session_state.specs.TidyLaws.{any_kept}
 use Rattle.session_state.specs.ListLaws.{all_alike, all_at, all_both, all_filtered, all_weaker, any_at, any_has, count_kept, rise_filtered}
 
@@ -54,20 +54,22 @@ module _ (n : KeptSession) where
           (ap (list_any (λ (w : KeptSub). w.live && (w.version == s.version))) e
           ∙ any_at (λ (w : KeptSub). w.live && (w.version == s.version)) before after s (and_from s.live (s.version == s.version) is (same_number s.version)))
 
-  present_held : list_all (λ (s : KeptSub). not s.live || holds_version n.versions s.version) n.subs ≡ true →
-      list_all (λ (s : KeptSub). not s.live || holds_version versions_of s.version) (kept_subs versions_of n.subs) ≡ true
+  present_held : list_all (λ (s : KeptSub). not s.live || holds_own n.versions s.version s) n.subs ≡ true →
+      list_all (λ (s : KeptSub). not s.live || holds_own versions_of s.version s) (kept_subs versions_of n.subs) ≡ true
   present_held all =
-      all_filtered (λ (s : KeptSub). not s.live || holds_version versions_of s.version) (is_wanted versions_of) n.subs
-      (all_both (λ (s : KeptSub). not s.live || holds_version n.versions s.version) (λ (s : KeptSub). not s.live || list_any (λ (w : KeptSub). w.live && (w.version == s.version)) n.subs)
-      (λ (s : KeptSub). not s.live || holds_version versions_of s.version) n.subs (λ s held own. by s (not s.live) held own) all own_present)
+      all_filtered (λ (s : KeptSub). not s.live || holds_own versions_of s.version s) (is_wanted versions_of) n.subs
+      (all_both (λ (s : KeptSub). not s.live || holds_own n.versions s.version s) (λ (s : KeptSub). not s.live || list_any (λ (w : KeptSub). w.live && (w.version == s.version)) n.subs)
+      (λ (s : KeptSub). not s.live || holds_own versions_of s.version s) n.subs (λ s held own. by s (not s.live) held own) all own_present)
     where
-      by : (s : KeptSub) (ended : Bool) → (ended || holds_version n.versions s.version) ≡ true → (ended || list_any (λ (w : KeptSub). w.live && (w.version == s.version)) n.subs) ≡ true →
-          (ended || holds_version versions_of s.version) ≡ true
+      by : (s : KeptSub) (ended : Bool) → (ended || holds_own n.versions s.version s) ≡ true → (ended || list_any (λ (w : KeptSub). w.live && (w.version == s.version)) n.subs) ≡ true →
+          (ended || holds_own versions_of s.version s) ≡ true
       by s true held own = refl
       by s false held own =
-          any_kept (λ (v : Version). v.number == s.version) (is_needed n.subs batches_of) n.versions
+          any_kept (λ (v : Version). (v.number == s.version) && (v.subscription == s.number)) (is_needed n.subs batches_of) n.versions
           (λ v is. or_left (is_present n.subs v) (is_named batches_of v)
-          (ap (λ k. list_any (λ (w : KeptSub). w.live && (w.version == k)) n.subs) (eqb-true v.number s.version is) ∙ own))
+          (ap (λ k. list_any (λ (w : KeptSub). w.live && (w.version == k)) n.subs)
+          (eqb-true v.number s.version (and_parts (v.number == s.version) (v.subscription == s.number) is).0)
+          ∙ own))
           ∙ held
 
   named_held : list_all (λ (b : Batch). holds_version n.versions b.version) n.batches ≡ true →
@@ -166,7 +168,7 @@ pub record HasFacts (m : KeptSession) : Type 0 where
   pub subs : rise 0 m.next_sub (sub_numbers m.subs) ≡ true
   pub versions : rise 0 m.next_version (version_numbers m.versions) ≡ true
   pub held : list_all (λ (v : Version). holds_sub m.subs v.subscription) m.versions ≡ true
-  pub present : list_all (λ (s : KeptSub). not s.live || holds_version m.versions s.version) m.subs ≡ true
+  pub present : list_all (λ (s : KeptSub). not s.live || holds_own m.versions s.version s) m.subs ≡ true
   pub named : list_all (λ (b : Batch). holds_version m.versions b.version) m.batches ≡ true
   pub ended : ended_rest m.subs ≡ true
   pub issued : are_issued 1 1 m.tracks.issued1 m.tracks.issued2 m.batches ≡ true
@@ -183,7 +185,7 @@ facts_from_test m is =
     let s = and_parts (are_issued 1 1 m.tracks.issued1 m.tracks.issued2 m.batches) lies r.1 in
     let t = and_parts (each_lies1 m.tracks m.batches) (each_lies2 m.tracks m.batches) s.1 in
     let numbers = and_parts (rise 0 m.next_sub (sub_numbers m.subs)) (rise 0 m.next_version (version_numbers m.versions)) p.0 in
-    let present = list_all (λ (s : KeptSub). not s.live || holds_version m.versions s.version) m.subs in
+    let present = list_all (λ (s : KeptSub). not s.live || holds_own m.versions s.version s) m.subs in
     let named = list_all (λ (b : Batch). holds_version m.versions b.version) m.batches in
     let u = and_parts (list_all (λ (v : Version). holds_sub m.subs v.subscription) m.versions) (present && named) q.0 in
     let v = and_parts present named u.1 in
@@ -193,7 +195,7 @@ pub test_from_facts : (m : KeptSession) → HasFacts m → has_facts m ≡ true
 test_from_facts m f =
     let lies = each_lies1 m.tracks m.batches && each_lies2 m.tracks m.batches in
     let batches = are_issued 1 1 m.tracks.issued1 m.tracks.issued2 m.batches && lies in
-    let present = list_all (λ (s : KeptSub). not s.live || holds_version m.versions s.version) m.subs in
+    let present = list_all (λ (s : KeptSub). not s.live || holds_own m.versions s.version s) m.subs in
     let named = list_all (λ (b : Batch). holds_version m.versions b.version) m.batches in
     and_from (has_numbers m) (names_held m && (ended_rest m.subs && batches))
     (and_from (rise 0 m.next_sub (sub_numbers m.subs)) (rise 0 m.next_version (version_numbers m.versions)) f.subs f.versions)

@@ -50,11 +50,15 @@ holds_sub subs number = list_any (λ (s : KeptSub). s.number == number) subs
 abbrev pub holds_version : List Version → ℕ → Bool
 holds_version versions number = list_any (λ (v : Version). v.number == number) versions
 
--- each version's subscription is held, each live subscription's version, and each batch's
+-- a version with this number is one of this subscription
+abbrev pub holds_own : List Version → ℕ → KeptSub → Bool
+holds_own versions number s = list_any (λ (v : Version). (v.number == number) && (v.subscription == s.number)) versions
+
+-- each version's subscription is held, each live subscription's version, which is one of its own, and each batch's
 abbrev pub names_held : KeptSession → Bool
 names_held m =
     list_all (λ (v : Version). holds_sub m.subs v.subscription) m.versions
-    && (list_all (λ (s : KeptSub). not s.live || holds_version m.versions s.version) m.subs
+    && (list_all (λ (s : KeptSub). not s.live || holds_own m.versions s.version s) m.subs
     && list_all (λ (b : Batch). holds_version m.versions b.version) m.batches)
 
 -- a subscription that was ended has no sweeps

@@ -15,7 +15,7 @@ use Rattle.session_state.specs.KeptSub.{KeptSub}
 use Rattle.session_state.specs.KeptSession.{KeptSession, sub_numbered}
 use Rattle.session_state.specs.KeptActing.{new_sub, next_version_of, on_sub, replaced_kept, subscribed_kept, unsubscribed_kept, version_of}
 use Rattle.session_state.specs.KeptFits.{if_live, is_live, is_next_sub, is_next_version, replaces, subscribes}
-use Rattle.session_state.specs.SoundTest.{holds_sub, holds_version, rise, sub_numbers}
+use Rattle.session_state.specs.SoundTest.{holds_own, holds_sub, holds_version, rise, sub_numbers}
 use Rattle.session_state.specs.AddLaws.{any_mapped, any_more, last_any, same_number}
 use Rattle.session_state.specs.FactLaws.{HasFacts}
 use Rattle.session_state.specs.ListLaws.{all_weaker}
@@ -73,11 +73,12 @@ facts_subscribed m s fits f =
           (λ v. any_more (λ (x : KeptSub). x.number == v.subscription) m.subs (new_sub s ∷ [])) f.held)
           (last_any (λ (x : KeptSub). x.number == s.subscription) m.subs (new_sub s) (same_number s.subscription));
       present =
-          all_more (λ (x : KeptSub). not x.live || holds_version versions x.version) m.subs (new_sub s)
-          (all_weaker (λ (x : KeptSub). not x.live || holds_version m.versions x.version) (λ (x : KeptSub). not x.live || holds_version versions x.version) m.subs
-          (λ x. or_later (not x.live) (holds_version m.versions x.version) (holds_version versions x.version)
-          (any_more (λ (v : Version). v.number == x.version) m.versions (version_of s ∷ []))) f.present)
-          (last_any (λ (v : Version). v.number == s.version) m.versions (version_of s) (same_number s.version));
+          all_more (λ (x : KeptSub). not x.live || holds_own versions x.version x) m.subs (new_sub s)
+          (all_weaker (λ (x : KeptSub). not x.live || holds_own m.versions x.version x) (λ (x : KeptSub). not x.live || holds_own versions x.version x) m.subs
+          (λ x. or_later (not x.live) (holds_own m.versions x.version x) (holds_own versions x.version x)
+          (any_more (λ (v : Version). (v.number == x.version) && (v.subscription == x.number)) m.versions (version_of s ∷ []))) f.present)
+          (last_any (λ (v : Version). (v.number == s.version) && (v.subscription == s.subscription)) m.versions (version_of s)
+          (and_from (s.version == s.version) (s.subscription == s.subscription) (same_number s.version) (same_number s.subscription)));
       named =
           all_weaker (λ (b : Batch). holds_version m.versions b.version) (λ (b : Batch). holds_version versions b.version) m.batches
           (λ b. any_more (λ (v : Version). v.number == b.version) m.versions (version_of s ∷ [])) f.named;
@@ -154,8 +155,8 @@ facts_replaced m r fits f =
           (λ v held. holds_on r.subscription g keeps m.subs v.subscription ∙ held) f.held)
           (holds_on r.subscription g keeps m.subs r.subscription ∙ live_held m r.subscription both.0);
       present =
-          all_mapped (λ (x : KeptSub). not x.live || holds_version m.versions x.version) (λ (x : KeptSub). not x.live || holds_version versions x.version)
-          (λ (s : KeptSub). changed_if (s.number == r.subscription) g s) m.subs (λ s h. present s (s.number == r.subscription) h) f.present;
+          all_mapped (λ (x : KeptSub). not x.live || holds_own m.versions x.version x) (λ (x : KeptSub). not x.live || holds_own versions x.version x)
+          (λ (s : KeptSub). changed_if (s.number == r.subscription) g s) m.subs (λ s h. present s (s.number == r.subscription) refl h) f.present;
       named =
           all_weaker (λ (b : Batch). holds_version m.versions b.version) (λ (b : Batch). holds_version versions b.version) m.batches
           (λ b. any_more (λ (v : Version). v.number == b.version) m.versions (next_version_of r ∷ [])) f.named;
@@ -171,15 +172,18 @@ facts_replaced m r fits f =
     or_later true b c more h = refl
     or_later false b c more h = more h
 
-    present : (s : KeptSub) (b : Bool) → (not s.live || holds_version m.versions s.version) ≡ true →
+    present : (s : KeptSub) (b : Bool) → (s.number == r.subscription) ≡ b → (not s.live || holds_own m.versions s.version s) ≡ true →
         (not (changed_if b (λ (x : KeptSub). record x { version = r.version }) s).live
-        || holds_version (m.versions ++ next_version_of r ∷ []) (changed_if b (λ (x : KeptSub). record x { version = r.version }) s).version) ≡ true
-    present s true h =
-        or_right (not s.live) (holds_version (m.versions ++ next_version_of r ∷ []) r.version)
-        (last_any (λ (v : Version). v.number == r.version) m.versions (next_version_of r) (same_number r.version))
-    present s false h =
-        or_later (not s.live) (holds_version m.versions s.version) (holds_version (m.versions ++ next_version_of r ∷ []) s.version)
-        (any_more (λ (v : Version). v.number == s.version) m.versions (next_version_of r ∷ [])) h
+        || holds_own (m.versions ++ next_version_of r ∷ []) (changed_if b (λ (x : KeptSub). record x { version = r.version }) s).version
+        (changed_if b (λ (x : KeptSub). record x { version = r.version }) s)) ≡ true
+    present s true is h =
+        or_right (not s.live) (holds_own (m.versions ++ next_version_of r ∷ []) r.version (record s { version = r.version }))
+        (last_any (λ (v : Version). (v.number == r.version) && (v.subscription == s.number)) m.versions (next_version_of r)
+        (and_from (r.version == r.version) (r.subscription == s.number) (same_number r.version)
+        (ap (λ k. r.subscription == k) (eqb-true s.number r.subscription is) ∙ same_number r.subscription)))
+    present s false is h =
+        or_later (not s.live) (holds_own m.versions s.version s) (holds_own (m.versions ++ next_version_of r ∷ []) s.version s)
+        (any_more (λ (v : Version). (v.number == s.version) && (v.subscription == s.number)) m.versions (next_version_of r ∷ [])) h
 
     rests : (s : KeptSub) (b : Bool) → (s.live || (length s.sweeps == 0)) ≡ true →
         ((changed_if b (λ (x : KeptSub). record x { version = r.version }) s).live || (length (changed_if b (λ (x : KeptSub). record x { version = r.version }) s).sweeps == 0)) ≡ true
@@ -198,7 +202,7 @@ facts_unsubscribed m n f =
           all_weaker (λ (v : Version). holds_sub m.subs v.subscription) (λ (v : Version). holds_sub subs v.subscription) m.versions
           (λ v held. holds_on n g keeps m.subs v.subscription ∙ held) f.held;
       present =
-          all_mapped (λ (x : KeptSub). not x.live || holds_version m.versions x.version) (λ (x : KeptSub). not x.live || holds_version m.versions x.version)
+          all_mapped (λ (x : KeptSub). not x.live || holds_own m.versions x.version x) (λ (x : KeptSub). not x.live || holds_own m.versions x.version x)
           (λ (s : KeptSub). changed_if (s.number == n) g s) m.subs (λ s h. present s (s.number == n) h) f.present;
       named = f.named;
       ended =
@@ -209,9 +213,10 @@ facts_unsubscribed m n f =
       lies2 = f.lies2;
     }
   where
-    present : (s : KeptSub) (b : Bool) → (not s.live || holds_version m.versions s.version) ≡ true →
+    present : (s : KeptSub) (b : Bool) → (not s.live || holds_own m.versions s.version s) ≡ true →
         (not (changed_if b (λ (x : KeptSub). record x { live = false; sweeps = [] }) s).live
-        || holds_version m.versions (changed_if b (λ (x : KeptSub). record x { live = false; sweeps = [] }) s).version) ≡ true
+        || holds_own m.versions (changed_if b (λ (x : KeptSub). record x { live = false; sweeps = [] }) s).version
+        (changed_if b (λ (x : KeptSub). record x { live = false; sweeps = [] }) s)) ≡ true
     present s true h = refl
     present s false h = h
 

@@ -9,7 +9,8 @@
 //! Read `specs/KeptSession.antt` first, what callers see, then `specs/KeptActing.antt`, what each change makes, and
 //! `specs/KeptFits.antt`, when a change fits, and `specs/SoundTest.antt`, what holds of every session that is held.
 //! `specs/Examples.antt` has what computes. The laws stand in `src/laws.rt`, and for other proofs in `specs/`:
-//! `TidyLaws.antt`, `LimitLaws.antt` and `AddLaws.antt` (limits), `WorkerLaws.antt` (all sessions), `SoundLaws.antt`.
+//! `TidyLaws.antt`, `LimitLaws.antt` and `AddLaws.antt` (limits), `WorkerLaws.antt` (all sessions), `SoundLaws.antt` (what holds) and
+//! `CountLaws.antt` (how much is kept).
 #![tactic(auto)]
 
 mod batch;

@@ -10,7 +10,7 @@ ghost use Rattle.session_terms.specs.declared.entry.Version.{Version};
 ghost use Rattle.session_state.specs.KeptSub.{KeptSub};
 ghost use Rattle.session_state.specs.KeptActing.{has_unfinished, numbers1_of, numbers2_of};
 ghost use Rattle.session_state.specs.KeptFits.{has_filters, live_count, subs_within, text_bytes};
-ghost use Rattle.session_state.specs.SoundTest.{are_issued, each_lies1, each_lies2, ended_rest, holds_sub, holds_version, is_needed, is_wanted, lies_in_one1, lies_in_one2, rise, sub_numbers, version_numbers};
+ghost use Rattle.session_state.specs.SoundTest.{are_issued, each_lies1, each_lies2, ended_rest, holds_own, holds_sub, holds_version, is_needed, is_wanted, lies_in_one1, lies_in_one2, rise, sub_numbers, version_numbers};
 
 use crate::keeping::{has_unfinished, has_version, is_named, is_present};
 use crate::session::{MOST_FILTER_TEXTS, MOST_SUBSCRIPTIONS};
@@ -118,13 +118,20 @@ pub(crate) fn hold_subs(subs: &[Sub], versions: &[Version]) -> bool
         .all(|version| holds_sub(subs, version.subscription))
 }
 
+// Whether the subscription's present version is held, as one of its own.
+fn holds_own(versions: &[Version], sub: &Sub) -> bool
+    ensures { result ≡ holds_own versions.now sub.now.version sub.now }
+{
+    versions.iter().any(|version| version.number == sub.version
+        && version.subscription == sub.number)
+}
+
 // Whether each live subscription's version is held.
 pub(crate) fn hold_present(versions: &[Version], subs: &[Sub]) -> bool
     ensures { result
-        ≡ list_all (λ (s : KeptSub). not s.live || holds_version versions.now s.version) subs.now }
+        ≡ list_all (λ (s : KeptSub). not s.live || holds_own versions.now s.version s) subs.now }
 {
-    subs.iter()
-        .all(|sub| !sub.live || holds_version(versions, sub.version))
+    subs.iter().all(|sub| !sub.live || holds_own(versions, sub))
 }
 
 // Whether each batch's version is held.
