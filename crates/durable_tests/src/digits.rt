@@ -16,11 +16,6 @@ fn digits_of(word: &str) -> &str {
         "AB" => "0003612f62",
         // the sweep at the front of generation 0
         "SWEEP" => "0000000000000000 0000000000000000 0000000000000000 00000000 0000000000000000",
-        // the end of a session that has nothing
-        "EMPTY" => {
-            "ffffffffffffffff 00000001 00000001 0000000000000000 0000000000000000 0000000000000000 \
-             0000000000000000 0000000000000000 0000 0000 0000 0000"
-        }
         other => other,
     }
 }

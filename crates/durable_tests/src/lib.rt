@@ -1,8 +1,8 @@
-//! Tests of the durable layer by its public calls alone, as tables of digits: records of changes and snapshots of the
-//! sessions of a worker.
+//! Tests of the durable layer by its public calls alone, as tables of digits: records of changes of the sessions of a
+//! worker.
 //!
-//! `change_rows` has each change as its record and what it makes of the sessions, `snapshot_rows` snapshots that are read
-//! and written again, in both formats, and `refused_rows` bytes that spell nothing.
+//! `change_rows` has each change as its record, which is read and written again, and `refused_rows` bytes that spell no
+//! record. Snapshots, and what a change makes of a session, are shown by facts of `session_codec` and `session_state`.
 //!
 //! Bytes that are wanted are worked out by hand from docs/FORMATS.md.
 #![tactic(auto)]
@@ -13,5 +13,3 @@ mod change_rows;
 mod digits;
 #[cfg(test)]
 mod refused_rows;
-#[cfg(test)]
-mod snapshot_rows;
