@@ -8,8 +8,14 @@
 #![tactic(auto)]
 
 #[cfg(test)]
+mod acting_rows;
+#[cfg(test)]
 mod change_rows;
 #[cfg(test)]
 mod digits;
 #[cfg(test)]
 mod refused_rows;
+#[cfg(test)]
+mod shown;
+#[cfg(test)]
+mod snapshot_rows;

@@ -40,6 +40,14 @@ released_parts t seq is =
     let rest = or_parts (nat_le seq t.complete) (has t.done seq) (not-true (is_done t seq) parts.1) in
     (leb-true seq t.received parts.0, leb-false seq t.complete rest.0, rest.1)
 
+-- a released number that isn't the one behind `complete` was received behind that one
+pub released_behind : (t : PlainTracks) (seq : ℕ) → is_released t seq ≡ true → seq ≢ t.complete + 1 → t.complete < t.received
+released_behind t seq released other =
+    let parts = released_parts t seq released in
+    let from = parts.0 in
+    let above = parts.1 in
+    omega arith
+
 -- the one behind `complete` is done, and a run follows it
 pub done_next : (t : PlainTracks) (seq complete : ℕ) (done : List ℕ) → InOrder t → is_released t seq ≡ true → seq ≡ t.complete + 1 → seq ≤ complete →
     t.done ≡ numbers_from (seq + 1) (complete - seq) ++ done →
@@ -160,7 +168,7 @@ received_some t seq last h waits from to =
     }
 
 -- those behind a mark fit beside those that are done
-pub room_for_run : (t : PlainTracks) (last : ℕ) → InOrder t → t.complete ≢ t.received → t.received ≤ last → last ≤ t.issued2 → length t.done + (last - t.received) ≤ 2048
+pub room_for_run : (t : PlainTracks) (last : ℕ) → InOrder t → t.complete ≢ t.received → t.received ≤ last → last ≤ t.issued2 → length t.done + (last - t.received) ≤ t.issued2 - t.complete
 room_for_run t last h waits from to =
     let short : length t.done ≤ t.received - (t.complete + 1) = ascend_short (t.complete + 1) t.received t.done h.done in
     let complete = h.complete in

@@ -115,11 +115,6 @@ find_only test xs n there passes only =
 
 -- ---- the number with an identifier
 
-pub seq_of-has : (t : PlainTracks) (track id n : ℕ) → seq_of t track id ≡ Some n → HasIdentifier t track id n
-seq_of-has t track id n is =
-    let found = find_passes (λ (k : ℕ). id_of track k == id) (unfinished_on t track) n is in
-    record { unfinished = sym (has-unfinished t track n) ∙ found.0; identifier = eqb-true (id_of track n) id found.1 }
-
 pub seq_of-some : (t : PlainTracks) (track id n : ℕ) → in_use t ≤ WIDEST_WINDOW → HasIdentifier t track id n → seq_of t track id ≡ Some n
 seq_of-some t track id n within h =
     find_only (λ (k : ℕ). id_of track k == id) (unfinished_on t track) n

@@ -21,7 +21,12 @@ pub record InOrder (t : PlainTracks) : Type 0 where
   pub window : in_use t ≤ WIDEST_WINDOW
   pub done : IsTrue (ascend (t.complete + 1) t.received t.done)
 
--- the same as a test
+-- in order, with room for so many numbers done out of order: as many as track 2 has in use
+pub record AreHeld (t : PlainTracks) (places : ℕ) : Type 0 where
+  pub order : InOrder t
+  pub room : t.issued2 - t.complete ≤ places
+
+-- whether tracks are in order
 abbrev pub are_in_order : PlainTracks → Bool
 are_in_order t =
     nat_le t.acked t.issued1

@@ -12,3 +12,4 @@ pub mod FinishLaws
 pub mod StandLaws
 pub mod AgreeLaws
 pub mod Examples
+pub mod KeepLaws

@@ -45,10 +45,9 @@ test-from_in_order t h =
     (and_from (nat_lt t.issued2 (2 ^ 64 - 1)) from_window (lt-ltb t.issued2 (2 ^ 64 - 1) h.last2)
     (and_from (nat_le (in_use t) WIDEST_WINDOW) ascends (le-leb (in_use t) WIDEST_WINDOW h.window) h.done)))))
 
--- fewer numbers are done out of order than the widest window has
-pub few_done : (t : PlainTracks) → InOrder t → length t.done < WIDEST_WINDOW
-few_done t h =
+-- fewer numbers are done out of order than track 2 has in use
+pub few_done : (t : PlainTracks) → InOrder t → t.complete < t.received → length t.done < t.issued2 - t.complete
+few_done t h some =
     let short : length t.done ≤ t.received - (t.complete + 1) = ascend_short (t.complete + 1) t.received t.done h.done in
     let received = h.received in
-    let window = h.window in
     omega arith

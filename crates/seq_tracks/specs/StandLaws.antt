@@ -6,7 +6,7 @@ use Rattle.std.proofs.lemmas.List.{length-append}
 use Rattle.std.proofs.lemmas.List.Folds.{list_any-append}
 use Rattle.session_terms.specs.declared.entry.Entry.{Entry}
 use Rattle.session_terms.specs.declared.entry.Version.{Version}
-use Rattle.session_terms.specs.Entry.{number1, number2, numbers1, numbers2}
+use Rattle.session_terms.specs.Entry.{numbers1, numbers2}
 use Rattle.session_terms.specs.PlainSession.{PlainSession, Subscription, begun_session, complete_of}
 use Rattle.session_terms.specs.Change.{Effect, Began, Ended, Bound, Parted, Subscribed, Replaced, Unsubscribed, Issued, Acked, Received, Done, Passed, Issues, Passes}
 use Rattle.session_terms.specs.Acting.{numbers_from, changed_session}

@@ -1,4 +1,4 @@
-ghost use Rattle.std.specs.Prelude.{◌≡◌, ◌+◌, ◌-◌, ◌<◌, ◌≤◌, ◌⊎◌, ◌↔◌, [], ℕ, nat_le, IsTrue, Some};
+ghost use Rattle.std.specs.Prelude.{◌≡◌, ◌+◌, ◌-◌, ◌<◌, ◌≤◌, ◌⊎◌, ◌↔◌, [], ℕ, nat_le, IsTrue, Some, OnOk, OnErr, IfOk, vec_capacity};
 ghost use Rattle.std.specs.Option.{SomeIff};
 ghost use Rattle.seq_tracks.specs.PlainTracks.{no_tracks, is_done, is_released, is_unfinished, in_use, room, has_room_for, mark_of, last_of};
 ghost use Rattle.seq_tracks.specs.InOrder.{InOrder, are_in_order, tracks_of};
@@ -6,35 +6,37 @@ ghost use Rattle.seq_tracks.specs.Identifiers.{HasIdentifier, seq_of};
 ghost use Rattle.seq_tracks.specs.Changed.{acked_tracks, received_tracks, done_tracks, passed_tracks, issued_tracks, with_done};
 ghost use Rattle.session_terms.specs.Acting.{numbers_from};
 
-use crate::done::{MOST_DONE, array_of, finish, pass_over};
+use crate::done::{finish, pass_over};
 use crate::identifiers::seq_between;
 use crate::marks::{Marks, WIDEST_WINDOW};
 use crate::numbers::{ascend, has};
-use arrayvec::ArrayVec;
+use std::alloc::{AllocError, Global};
 use std::marker::Model;
 
 /// The two tracks of a session, of QoS 1 and of QoS 2: which numbers they have given, and how far its client has
-/// acknowledged them (MQTT 4.3.2, 4.3.3). Contracts see `PlainTracks`. No call takes memory.
+/// acknowledged them (MQTT 4.3.2, 4.3.3). Contracts see `PlainTracks`. Giving numbers makes room for what may be done out of
+/// order, so that no acknowledgement takes memory.
 #[derive(Debug, Drop)]
 pub struct Tracks {
     marks: Marks,
-    done: ArrayVec<u64, MOST_DONE>,
+    done: Vec<u64>,
 }
 
 impl Model for Tracks {
+    ghost use Rattle.std.specs.Prelude.{vec_capacity};
     ghost use Rattle.seq_tracks.specs.PlainTracks.{PlainTracks};
-    ghost use Rattle.seq_tracks.specs.InOrder.{InOrder, tracks_of};
+    ghost use Rattle.seq_tracks.specs.InOrder.{AreHeld, tracks_of};
 
     ghost Value = { PlainTracks };
 
     ghost view = { λ t. tracks_of t.marks t.done.items };
 
-    ghost invariant = { λ t. InOrder (tracks_of t.marks t.done.items) };
+    ghost invariant = { λ t. AreHeld (tracks_of t.marks t.done.items) (vec_capacity t.done) };
 }
 
 impl Tracks {
     /// The tracks of a session that begins: no number was given.
-    pub fn new() -> Tracks
+    pub fn new(alloc: Global) -> Tracks
         ensures { result ≡ no_tracks }
     {
         let marks = Marks {
@@ -46,34 +48,33 @@ impl Tracks {
         };
         Tracks {
             marks,
-            done: ArrayVec::new(),
+            done: Vec::new(alloc),
         }
     }
 
     /// Tracks with these marks, and these numbers of track 2 done out of order, ascending. None exactly where a mark passes
     /// the last number or `complete` what was received, a last number is the greatest of all, more than the widest window
     /// is in use, or the numbers don't ascend between the one behind `complete` and what was received.
-    pub fn of(marks: Marks, done: &[u64]) -> Option<Tracks>
-        ensures { SomeIff result (IsTrue (are_in_order (tracks_of marks done.now)))
-            (tracks_of marks done.now) }
+    pub fn of(marks: Marks, done: Vec<u64>) -> Result<Option<Tracks>, AllocError>
+        ensures { IfOk result (λ made. SomeIff made
+            (IsTrue (are_in_order (tracks_of marks done.items))) (tracks_of marks done.items)) }
     {
-        if !are_in_order(&marks, done) {
-            return None;
+        if !are_in_order(&marks, &done) {
+            return Ok(None);
         }
-        Some(Tracks {
-            marks,
-            done: array_of(done),
-        })
+        let mut done = done;
+        make_room(&marks, 0, &mut done)?;
+        Ok(Some(Tracks { marks, done }))
     }
 
     /// An equal value.
-    pub fn copy(&self) -> Tracks
-        ensures { result ≡ self.now }
+    pub fn copy(&self) -> Result<Tracks, AllocError>
+        ensures { IfOk result (λ tracks. tracks ≡ self.now) }
     {
-        Tracks {
-            marks: self.marks,
-            done: array_of(&self.done),
-        }
+        let marks = self.marks;
+        let mut done = self.done.clone()?;
+        make_room(&marks, 0, &mut done)?;
+        Ok(Tracks { marks, done })
     }
 
     // ---- what they are
@@ -197,13 +198,17 @@ impl Tracks {
 
     // ---- how they change
 
-    /// Gives so many more numbers on each track.
-    pub fn issue(&mut self, count1: u16, count2: u16)
+    /// Gives so many more numbers on each track. Only this call takes memory, as much as the numbers in use on track 2 may
+    /// need; on want of it nothing is changed.
+    pub fn issue(&mut self, count1: u16, count2: u16) -> Result<(), AllocError>
         requires { IsTrue (has_room_for self.old count1 count2) }
-        ensures { self.new ≡ issued_tracks count1 count2 self.old }
+        ensures issued { OnOk result (self.new ≡ issued_tracks count1 count2 self.old) }
+        ensures memory { OnErr result (self.new ≡ self.old) }
     {
+        make_room(&self.marks, count2, &mut self.done)?;
         self.marks.issued1 += u64::from(count1);
         self.marks.issued2 += u64::from(count2);
+        Ok(())
     }
 
     /// PUBACK came for a number of track 1: all up to it are acknowledged (MQTT 4.3.2).
@@ -261,6 +266,19 @@ impl Tracks {
         self.marks.complete = pass_over(last, &self.marks, &mut self.done);
         self.marks.received = seq;
     }
+}
+
+// Makes room for as many numbers as track 2 has in use, and so many more.
+fn make_room(marks: &Marks, more: u16, done: &mut Vec<u64>) -> Result<(), AllocError>
+    requires { marks.now.issued2 - marks.now.complete ≤ WIDEST_WINDOW }
+    ensures numbers { done.new.items ≡ done.old.items }
+    ensures room { OnOk result
+        (marks.now.issued2 - marks.now.complete + more ≤ vec_capacity done.new) }
+    ensures more { vec_capacity done.old ≤ vec_capacity done.new }
+{
+    let used = marks.issued2.saturating_sub(marks.complete) as usize;
+    let wanted = used + usize::from(more);
+    done.reserve(wanted.saturating_sub(done.len()))
 }
 
 // Whether tracks with these marks and these numbers are in order.

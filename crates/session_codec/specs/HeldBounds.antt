@@ -1,5 +1,5 @@
 -- What has a spelling is bounded.
-use Rattle.std.proofs.Common.{◌≡◌, inl, inr, ℕ, ◌+◌, ◌*◌, ◌≤◌, Bool, true, false, ◌&&◌, ◌||◌, ◌==◌, eqb, if◌then◌else◌, List, [], ◌∷◌, ◌++◌, length, is_none, refl, sym, ap, ◌∙◌, append_assoc, append-nil, arith}
+use Rattle.std.proofs.Common.{◌≡◌, inl, inr, ℕ, ◌+◌, ◌*◌, ◌≤◌, Bool, true, false, ◌&&◌, ◌||◌, ◌==◌, eqb, if◌then◌else◌, List, [], ◌∷◌, length, refl, arith}
 use Rattle.std.specs.Prelude.{nat_lt, nat_le}
 use Rattle.std.specs.List.{list_all, sum_by}
 use Rattle.std.proofs.lemmas.Bool.{and_parts, eqb-true, leb-true}
@@ -8,14 +8,15 @@ use Rattle.topic_terms.specs.Profile.{whole}
 use Rattle.seq_tracks.specs.PlainTracks.{PlainTracks, in_use}
 use Rattle.seq_tracks.specs.InOrder.{are_in_order, ascend}
 use Rattle.session_state.specs.KeptSub.{KeptSub}
-use Rattle.session_state.specs.KeptSession.{KeptSession, KeptSessions, session_of}
+use Rattle.session_state.specs.KeptSession.{KeptSession, KeptSessions}
 use Rattle.session_state.specs.KeptActing.{has_unfinished}
 use Rattle.session_state.specs.KeptFits.{live_count, text_bytes, is_window, has_filters, subs_within, kept_within, is_wide, wide_count, kept_are_within}
-use Rattle.session_state.specs.SoundTest.{is_sound, is_tidy, has_facts, has_numbers, names_held, ended_rest, are_issued, each_lies1, each_lies2, is_needed, is_wanted, rise, sub_numbers, version_numbers, may_add}
+use Rattle.session_state.specs.SoundTest.{is_sound, is_tidy, has_facts, has_numbers, names_held, ended_rest, are_issued, each_lies1, each_lies2, is_needed, is_wanted, rise, sub_numbers, version_numbers}
 use Rattle.session_codec.specs.declared.formats.TheConstants.{SECOND_FORMAT}
 use Rattle.session_codec.specs.Spelling.{snapshot_to_write}
-use Rattle.session_codec.specs.Soundness.{may_add_all, sessions_with, are_sound}
+use Rattle.session_codec.specs.Soundness.{sessions_with, are_sound}
 use Rattle.session_codec.specs.HasSpelling.{fits_u8, fits_u32, fits_u64, fits_filter, fits_sweep, are_sweeps, fits_sub, fits_tracks, have_tracks, fits_subs, fits_versions, fits_batches, fits_holder, fits_kept, fits_session, may_be_held, fits_sessions, is_format, has_spelling, fits_u16}
+use Rattle.session_codec.specs.ApartLaws.{added_within}
 use Rattle.session_codec.specs.CountLaws.{all_from}
 use Rattle.session_codec.specs.SoundBounds.{done_few, batches_few}
 use Rattle.session_codec.specs.NeedBounds.{one_if, filter_sum, versions_few, subs_few}
@@ -143,19 +144,6 @@ held shards m few h =
     }
 
 -- ---- the sessions of a worker
-
-added_within : (s : KeptSessions) (ms : List KeptSession) → kept_are_within whole s ≡ true → may_add_all s ms ≡ true →
-    kept_are_within whole (record s { list = s.list ++ ms }) ≡ true
-added_within s [] h e = ap (λ l. kept_are_within whole (record s { list = l })) (append-nil s.list) ∙ h
-added_within s (m ∷ ms) h e =
-    let p = and_parts (may_add m s) (may_add_all (record s { list = s.list ++ m ∷ [] }) ms) e in
-    let within : Bool = kept_are_within whole (record s { list = s.list ++ m ∷ [] }) in
-    let below : Bool = list_all (λ (x : KeptSession). nat_lt x.incarnation m.incarnation) s.list in
-    let a = and_parts (is_none (session_of m.client s)) (below && (nat_lt m.incarnation s.next && within)) p.0 in
-    let b = and_parts below (nat_lt m.incarnation s.next && within) a.1 in
-    let c = and_parts (nat_lt m.incarnation s.next) within b.1 in
-    let rest = added_within (record s { list = s.list ++ m ∷ [] }) ms c.1 p.1 in
-    ap (λ l. kept_are_within whole (record s { list = l })) (sym (append_assoc s.list (m ∷ []) ms)) ∙ rest
 
 pub are_bounded : (shards workers worker : ℕ) (s : KeptSessions) → shards ≤ 8 → has_spelling (snapshot_to_write shards workers worker s) ≡ true → AreBounded 64 s
 are_bounded shards workers worker s few h =

@@ -22,3 +22,5 @@ pub mod NeedBounds
 pub mod Bounds
 pub mod HeldBounds
 pub mod Examples
+pub mod ApartLaws
+pub mod KeepLaws

@@ -5,10 +5,13 @@ ghost use Rattle.session_state.specs.KeptSession.{KeptSession, KeptSessions};
 ghost use Rattle.session_codec.specs.Spelling.{KeptSnapshot, snapshot_to_write, spelled_changes, spelled_session, spelled_snapshot};
 ghost use Rattle.session_codec.specs.Sizes.{changes_size, snapshot_size};
 ghost use Rattle.session_codec.specs.Bounds.{IsBounded, AreBounded};
-ghost use Rattle.session_codec.specs.HasSpelling.{have_spelling, has_spelling, SpellsChanges, SpellsSnapshot};
+ghost use Rattle.topic_terms.specs.Profile.{whole};
+ghost use Rattle.session_state.specs.KeptActing.{kept_acted, kept_acted_all};
+ghost use Rattle.session_state.specs.KeptFits.{kept_fits, kept_fit_all};
+ghost use Rattle.session_codec.specs.HasSpelling.{fits_change, fits_sessions, have_spelling, has_spelling, SpellsChanges, SpellsSnapshot};
 ghost use Rattle.session_codec.specs.Reading.{changes_in, snapshot_in};
 
-use crate::formats::SECOND_FORMAT;
+use crate::formats::{FIRST_FORMAT, SECOND_FORMAT};
 
 /// A law: what is spelled is read again.
 pub fn spelled_is_read()
@@ -61,4 +64,21 @@ pub fn snapshots_are_short()
     ensures { (shards workers worker : ℕ) (s : KeptSessions) → shards ≤ 8 →
         IsTrue (has_spelling (snapshot_to_write shards workers worker s)) →
         length (spelled_snapshot (snapshot_to_write shards workers worker s)) ≤ 576126992 }
+{}
+
+/// A law: sessions that have a spelling have one after changes that have one and fit.
+pub fn changes_keep_spelling()
+    ensures change { (format shards : ℕ) (s : KeptSessions) (c : Change) →
+        IsTrue (fits_sessions format shards s) → IsTrue (fits_change format shards c) →
+        IsTrue (kept_fits whole s c) → IsTrue (fits_sessions format shards (kept_acted c s)) }
+    ensures changes { (format shards : ℕ) (s : KeptSessions) (changes : List Change) →
+        IsTrue (fits_sessions format shards s) → IsTrue (have_spelling format shards changes) →
+        IsTrue (kept_fit_all whole s changes) →
+        IsTrue (fits_sessions format shards (kept_acted_all changes s)) }
+{}
+
+/// A law: sessions that have a spelling in the first format have one in the second.
+pub fn formats_go_on()
+    ensures { (shards : ℕ) (s : KeptSessions) → IsTrue (fits_sessions FIRST_FORMAT shards s) →
+        IsTrue (fits_sessions SECOND_FORMAT shards s) }
 {}

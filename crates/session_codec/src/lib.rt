@@ -36,8 +36,8 @@ mod tracks;
 pub use changes::{read_changes, write_changes};
 pub use formats::{FIRST_FORMAT, FIRST_WINDOW, MOST_CHANGES, SECOND_FORMAT};
 pub use laws::{
-    bounded_snapshots_are_short, length_is_a_number, read_was_spelled, snapshots_are_short,
-    spelled_is_read, spellings_differ,
+    bounded_snapshots_are_short, changes_keep_spelling, formats_go_on, length_is_a_number,
+    read_was_spelled, snapshots_are_short, spelled_is_read, spellings_differ,
 };
 pub use refused::CodecRefused;
 pub use snapshot::{SessionsSnapshot, format_of, read_snapshot, write_snapshot};

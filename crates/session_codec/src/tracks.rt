@@ -68,7 +68,7 @@ pub(crate) fn tracks_in(alloc: Global, bytes: &[u8], at: &mut usize) -> Result<T
 {
     let marks = marks_in(bytes, at)?;
     let done = done_in(alloc, bytes, at)?;
-    match Tracks::of(marks, &done) {
+    match Tracks::of(marks, done)? {
         Some(tracks) => Ok(tracks),
         None => Err(CodecRefused::Bad),
     }

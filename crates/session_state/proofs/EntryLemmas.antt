@@ -274,3 +274,36 @@ is_none_is (Some x) h = absurd (search rules)
 pub sessions_more : (entries : List Entry) (key : List ℕ) (m : KeptSession) → sessions_in (entries ++ (key, m) ∷ []) ≡ sessions_in entries ++ m ∷ []
 sessions_more [] key m = refl
 sessions_more (e ∷ entries) key m = ap (λ l. e.1 ∷ l) (sessions_more entries key m)
+
+-- ---- one behind others
+
+head_of : KeptSession → List KeptSession → KeptSession
+head_of d [] = d
+head_of d (m ∷ ms) = m
+
+rest_of : List KeptSession → List KeptSession
+rest_of [] = []
+rest_of (m ∷ ms) = ms
+
+-- what holds of all keys holds of each session's client
+client_among : (P : List ℕ → Type 0) (before rest : List KeptSession) (m : KeptSession) (entries : List Entry) → AreKeyed entries →
+    AllByRecursion P (keys_of entries) → sessions_in entries ≡ before ++ m ∷ rest → P m.client
+unfolding head_of rest_of
+client_among P [] rest m [] keyed all e = absurd cc
+client_among P (b ∷ before) rest m [] keyed all e = absurd cc
+client_among P [] rest m (x ∷ entries) keyed all e =
+    let same : x.1 ≡ m = ap (head_of m) e in subst P (keyed.0 ∙ ap (λ (m : KeptSession). m.client) same) all.0
+client_among P (b ∷ before) rest m (x ∷ entries) keyed all e = client_among P before rest m entries keyed.1 all.1 (ap rest_of e)
+
+-- a client has no session among those before its own
+pub none_before : (before rest : List KeptSession) (m : KeptSession) (entries : List Entry) → AreKeyed entries → IsDistinct bytes_eq (keys_of entries) →
+    sessions_in entries ≡ before ++ m ∷ rest → IsNone (find (λ (x : KeptSession). bytes_eq x.client m.client) before)
+unfolding head_of rest_of
+none_before [] rest m entries keyed distinct e = refl
+none_before (b ∷ before) rest m [] keyed distinct e = absurd cc
+none_before (b ∷ before) rest m (x ∷ entries) keyed distinct e =
+    let others = client_among (λ key. bytes_eq x.0 key ≡ false) before rest m entries keyed.1 (IsDistinct-head bytes_eq x.0 (keys_of entries) distinct) (ap rest_of e) in
+    let same : x.1 ≡ b = ap (head_of b) e in
+    let apart : bytes_eq b.client m.client ≡ false = ap (λ c. bytes_eq c m.client) (ap (λ (m : KeptSession). m.client) (sym same) ∙ sym keyed.0) ∙ others in
+    subst IsNone (ap (λ t. if t then Some b else find (λ (x : KeptSession). bytes_eq x.client m.client) before) (sym apart))
+    (none_before before rest m entries keyed.1 (IsDistinct-tail bytes_eq x.0 (keys_of entries) distinct) (ap rest_of e))

@@ -17,13 +17,12 @@ use Rattle.seq_tracks.specs.PlainTracks.{PlainTracks, in_use}
 use Rattle.seq_tracks.specs.InOrder.{InOrder}
 use Rattle.seq_tracks.specs.Changed.{issued_tracks}
 use Rattle.session_state.specs.declared.batch.Batch.{Batch}
-use Rattle.session_state.specs.declared.change.Effect.{Effect}
 use Rattle.session_state.specs.declared.change.Effect.TheVariants.{Subscribed, Issued}
 use Rattle.session_state.specs.declared.change.Issued.{Issued as Issuing}
 use Rattle.session_state.specs.KeptSub.{KeptSub}
 use Rattle.session_state.specs.KeptSession.{KeptSession}
 use Rattle.session_state.specs.KeptActing.{has_version, is_named, is_present, issued_kept, kept_batches, kept_changed, kept_subs, kept_versions, new_sub, subscribed_kept, version_of}
-use Rattle.session_state.specs.KeptFits.{has_filters, kept_suits, is_window, kept_within, live_count, session_fits, subs_within, text_bytes}
+use Rattle.session_state.specs.KeptFits.{has_filters, is_window, kept_within, live_count, subs_within, text_bytes}
 use Rattle.session_state.specs.Sound.{IsTidy, IsSound}
 use Rattle.session_state.specs.FilterLaws.{kept_by_more, kept_cons}
 use Rattle.session_state.specs.TidyLaws.{tidy_stays}
@@ -146,9 +145,6 @@ issued_within i m sound order =
     ∙ ap (λ a. a && (subs_within whole subs && nat_le (in_use n.tracks) m.window)) more.0
     ∙ ap (λ a. a && nat_le (in_use n.tracks) m.window) within
     ∙ ap (λ u. nat_le u m.window) (used_issued m.tracks i.batch.count1 i.batch.count2 order)
-
-pub suits_of : (m : KeptSession) (effect : Effect) → session_fits whole m effect ≡ true → kept_suits m effect ≡ true
-suits_of m effect fits = (and_parts (kept_suits m effect) (kept_within whole (kept_changed effect m)) fits).0
 
 -- ---- what is needed when a batch is issued
 

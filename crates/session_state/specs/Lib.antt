@@ -19,3 +19,4 @@ pub mod SubEffectLaws
 pub mod BatchEffectLaws
 pub mod CountLaws
 pub mod Examples
+pub mod OrderLaws

@@ -62,7 +62,7 @@ impl Session {
             parted: None,
             next_sub: 1,
             next_version: 1,
-            tracks: Tracks::new(),
+            tracks: Tracks::new(alloc),
             subs: Vec::new(alloc),
             versions: Vec::new(alloc),
             batches: Vec::new(alloc),
@@ -91,6 +91,7 @@ impl Session {
         })
     }
 
+    /// An equal value.
     pub fn copy(&self) -> Result<Session, AllocError>
         ensures { IfOk result (λ session. session ≡ self.now) }
     {
@@ -98,6 +99,7 @@ impl Session {
         let subs = copy_all(*self.subs.allocator(), &self.subs)?;
         let versions = self.versions.clone()?;
         let batches = self.batches.clone()?;
+        let tracks = self.tracks.copy()?;
         Ok(Session {
             client,
             incarnation: self.incarnation,
@@ -106,7 +108,7 @@ impl Session {
             parted: self.parted,
             next_sub: self.next_sub,
             next_version: self.next_version,
-            tracks: self.tracks.copy(),
+            tracks,
             subs,
             versions,
             batches,

@@ -12,7 +12,7 @@ mod acting;
 use crate::{Began, Change, Effect, Session};
 pub(crate) use acting::is_begun_within;
 pub use acting::{MOST_CLIENT, MOST_SESSIONS, MOST_WIDE_SESSIONS, WIDE_WINDOW, WINDOW};
-use acting::{add_to, are_below, change_in, is_next, remove_from, wide_count};
+use acting::{add_to, are_below, change_in, copy_of, is_next, remove_from, wide_count};
 use indexmap::IndexMap;
 use std::alloc::{AllocError, Global};
 use std::marker::Model;
@@ -55,6 +55,17 @@ impl Sessions {
             map: IndexMap::new(alloc),
             next_incarnation,
         }
+    }
+
+    /// An equal value.
+    pub fn copy(&self) -> Result<Sessions, AllocError>
+        ensures { IfOk result (λ sessions. sessions ≡ self.now) }
+    {
+        let map = copy_of(&self.map)?;
+        Ok(Sessions {
+            map,
+            next_incarnation: self.next_incarnation,
+        })
     }
 
     /// Adds a session that was read as the newest, and gives whether it may be: its client has none yet, its number lies

@@ -129,8 +129,9 @@ impl Session {
     {
         let _order = self.tracks.done();
         let batch = issued.batch;
-        self.batches.push(batch)?;
-        self.tracks.issue(batch.count1, batch.count2);
+        self.batches.reserve(1)?;
+        self.tracks.issue(batch.count1, batch.count2)?;
+        self.batches.push_reserved(batch);
         set_sweep(
             &mut self.subs,
             issued.subscription,

@@ -94,6 +94,32 @@ pub(crate) fn add_to(
     Ok(())
 }
 
+// An equal map.
+pub(crate) fn copy_of(map: &IndexMap<Name, Session>) -> Result<IndexMap<Name, Session>, AllocError>
+    requires { AreKeyed map.now.entries }
+    ensures keyed { IfOk result (λ copied. AreKeyed copied.entries) }
+    ensures same { IfOk result (λ copied. sessions_in copied.entries ≡ sessions_in map.now.entries) }
+{
+    let mut copied = IndexMap::with_capacity(*map.allocator(), map.len())?;
+    for session in map.values() {
+        add_copy(&mut copied, session)?;
+    }
+    Ok(copied)
+}
+
+// Puts a copy of a session behind the others.
+fn add_copy(map: &mut IndexMap<Name, Session>, session: &Session) -> Result<(), AllocError>
+    requires keyed { AreKeyed map.old.entries }
+    requires absent { IsNone (find (λ (m : KeptSession). bytes_eq m.client session.now.client)
+        (sessions_in map.old.entries)) }
+    ensures keyed { AreKeyed map.new.entries }
+    ensures added { OnOk result (sessions_in map.new.entries
+        ≡ sessions_in map.old.entries ++ session.now ∷ []) }
+{
+    let copied = session.copy()?;
+    add_to(map, session.client().copy()?, copied)
+}
+
 // Takes the session of this client out, and gives whether it had one.
 pub(crate) fn remove_from(map: &mut IndexMap<Name, Session>, client: &Name) -> bool
     requires { AreKeyed map.old.entries }

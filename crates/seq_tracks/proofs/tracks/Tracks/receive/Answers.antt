@@ -10,5 +10,5 @@ pub returns : goal.returns
 returns c =
     let t = tracks_of c.self.inside.marks c.self.inside.done.items in
     let new = numbers_from (t.received + 1) (c.args.last - t.received) in
-    with_done_is t c.args.seq new c.pass_over-self-inside.result c.pass_over-self-inside.new.done.items (c.pass_over-self-inside.ensures c.args.seq c.requires.to)
+    with_done_is t c.args.seq new c.pass_over-self-inside.result c.pass_over-self-inside.new.done.items (c.pass_over-self-inside.ensures.done c.args.seq c.requires.to)
     ∙ ap (λ (t : PlainTracks). with_done c.args.seq (numbers_from (t.received + 1) (c.args.last - t.received)) t) c.self.view_is

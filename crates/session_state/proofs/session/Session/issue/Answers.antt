@@ -1,4 +1,4 @@
-use Rattle.std.proofs.Common.{refl, ap, sym, ◌∙◌}
+use Rattle.std.proofs.Common.{[], ◌∷◌, ◌++◌, refl, ap, sym, ◌∙◌}
 use Rattle.session_state.specs.declared.change.Effect.TheVariants.{Issued}
 use Rattle.session_state.specs.KeptActing.{kept_changed, on_sub, with_effect}
 use Rattle.session_state.specs.KeptView.{kept_of}
@@ -11,7 +11,8 @@ tidy-requires-clause-versions c =
     let m = kept_of c.self.inside in
     let subs = lent_back c.self.inside.subs.items c.deref_mut.result.now c.set_sweep.new.subs c.self.inside.subs.len c.deref_mut.ensures.value c.deref_mut.ensures.len
     c.set_sweep.auto.subs ∙ c.set_sweep.ensures ∙ ap (on_sub _ _) c.deref_mut.ensures.value in
-    rw (subs, c.in_ok-push.ensures.items) (issued_needs_versions c.args.issued.now m c.self.invariant.tidy)
+    let batches = c.push_reserved.ensures.items ∙ ap (λ l. l ++ c.args.issued.now.batch ∷ []) c.reserve.ensures.items in
+    rw (subs, batches) (issued_needs_versions c.args.issued.now m c.self.invariant.tidy)
 
 pub tidy-requires-clause-subs : goal.tidy-requires-clause-subs
 tidy-requires-clause-subs c =
@@ -25,7 +26,8 @@ returns-clause-made c =
     let n = with_effect (Issued c.args.issued.now) (kept_of c.self.inside) in
     let subs = lent_back c.self.inside.subs.items c.deref_mut.result.now c.set_sweep.new.subs c.self.inside.subs.len c.deref_mut.ensures.value c.deref_mut.ensures.len
     c.set_sweep.auto.subs ∙ c.set_sweep.ensures ∙ ap (on_sub _ _) c.deref_mut.ensures.value in
-    tidied_of n _ _ _ _ _ _ _ c.issue.ensures c.in_ok-push.ensures.items refl subs c.tidy.ensures.batches c.tidy.ensures.versions c.tidy.ensures.subs
+    let batches = c.push_reserved.ensures.items ∙ ap (λ l. l ++ c.args.issued.now.batch ∷ []) c.reserve.ensures.items in
+    tidied_of n _ _ _ _ _ _ _ c.in_ok-issue.ensures.issued batches refl subs c.tidy.ensures.batches c.tidy.ensures.versions c.tidy.ensures.subs
     ∙ ap (kept_changed (Issued c.args.issued.now)) c.self.view_is
 
 pub invariant_of-self-2 : goal.invariant_of-self-2
