@@ -701,6 +701,23 @@ impl<D: Disk> PairLog<D> {
         Ok(())
     }
 
+    /// The two disks in their order.
+    pub fn into_disks(self) -> (D, D)
+        ensures first { result.0 ≡ first_disk self }
+        ensures second { result.1 ≡ second_disk self }
+    {
+        let PairLog {
+            active,
+            standby,
+            side,
+            ..
+        } = self;
+        match side {
+            Side::First => (active.into_disk(), standby.into_disk()),
+            Side::Second => (standby.into_disk(), active.into_disk()),
+        }
+    }
+
     /// Appends the two disks in their order.
     pub fn disks(self, out: &mut Vec<D>)
         requires { vec_len out.old + 2 ≤ vec_capacity out.old }

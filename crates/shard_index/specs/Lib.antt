@@ -1,0 +1,11 @@
+pub mod Triples
+pub mod Identifiers
+pub mod KeptIndex
+pub mod Absorbing
+pub mod Sound
+pub mod AbsorbLaws
+pub mod SoundLaws
+pub mod GrowLaws
+pub mod Group
+pub mod GroupLaws
+pub mod Examples
