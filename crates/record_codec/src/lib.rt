@@ -40,7 +40,8 @@ pub use laws::{
 };
 pub use manifest::Manifest;
 pub use manifests::{manifest_format, read_manifest, write_manifest};
-pub use opening::{Awaited, Opening};
+pub use opening::Opening;
 pub use openings::{read_opening, write_opening};
 pub use session_codec::CodecRefused;
+pub use shard_index::Awaited;
 pub use sizes::{store_length, stores_length};

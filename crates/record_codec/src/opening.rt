@@ -1,28 +1,5 @@
+use shard_index::Awaited;
 use std::marker::Model;
-use topic_name::Name;
-
-/// An identifier of QoS 2 that its publisher has not released yet (MQTT 4.3.3). Seen as the shard list's `Awaited`.
-#[derive(Drop)]
-pub struct Awaited {
-    /// The client identifier of its publisher.
-    pub publisher: Name,
-    /// The number of its publisher's session.
-    pub incarnation: u64,
-    /// The packet identifier.
-    pub id: u16,
-}
-
-impl Model for Awaited {
-    ghost use Rattle.shard_terms.specs.ShardList.{Awaited as PlainAwaited};
-
-    ghost Value = { PlainAwaited };
-
-    ghost view = { λ a. record {
-      publisher = a.publisher;
-      incarnation = a.incarnation;
-      id = a.id;
-    } };
-}
 
 /// Where a generation begins. Contracts see `KeptOpening`.
 #[derive(Drop)]

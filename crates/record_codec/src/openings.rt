@@ -14,9 +14,10 @@ use crate::fields::{eight_in, ends, mark_in, sender_in, two_in};
 use crate::formats::OPENING;
 use crate::numbers::Number::{Eight, One};
 use crate::numbers::put_numbers;
-use crate::opening::{Awaited, Opening};
+use crate::opening::Opening;
 use crate::putting_ops::put_triple;
 use session_codec::CodecRefused;
+use shard_index::Awaited;
 use std::alloc::{AllocError, Global};
 use wire_fields::put_u16;
 

@@ -1,0 +1,9 @@
+pub mod JournalLemmas
+pub mod MountingLemmas
+pub mod PairLemmas
+pub mod ReadLemmas
+pub mod ReplayLemmas
+pub mod SettleLemmas
+pub mod SnapshotLemmas
+pub mod CommitLemmas
+pub mod OpeningLemmas
