@@ -10,8 +10,10 @@
 //! Bytes and texts that are wanted are worked out by hand from docs/FORMATS.md.
 #![tactic(auto)]
 
+mod counts;
 mod held;
 
+pub use counts::failures_were_asked_for;
 pub use held::Held;
 
 #[cfg(test)]

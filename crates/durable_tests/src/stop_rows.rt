@@ -1,5 +1,5 @@
 // A journal whose calls fail, each in turn, and every image of each of these moments.
-ghost use Rattle.std.specs.Prelude.{◌≡◌, IfSome, IfOk, IsTrue, Some, true};
+ghost use Rattle.std.specs.Prelude.{◌≡◌, ◌<◌, IfSome, IsTrue, Some, true, false};
 ghost use Rattle.session_codec.specs.HasSpelling.{have_spelling};
 ghost use Rattle.pair_log.specs.declared.doubt.Doubt.TheVariants.{Nothing};
 

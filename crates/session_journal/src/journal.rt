@@ -147,6 +147,20 @@ impl<D: Disk> Journal<D> {
         self.asked
     }
 
+    /// The disk whose records count.
+    pub fn active_disk(&self) -> &D
+        ensures { result.now ≡ self.now.pair.active.disk }
+    {
+        self.pair.active_disk()
+    }
+
+    /// The other one.
+    pub fn standby_disk(&self) -> &D
+        ensures { result.now ≡ self.now.pair.standby.disk }
+    {
+        self.pair.standby_disk()
+    }
+
     // What every journal keeps, and what its disks hold.
     fn facts(&self)
         ensures keeps { IsJournal D.state self.now }
