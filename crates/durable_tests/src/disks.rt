@@ -24,9 +24,9 @@ pub(crate) const ONE: Config = Config {
 // Puts a record with this payload: an open gate, the length, the payload.
 fn put_record(alloc: Global, words: &str, log: &mut Vec<u8>) -> Option<()> {
     let payload = bytes_of(alloc, words).ok()?;
+    let length = u32::try_from(payload.len()).ok()?;
     log.push(1).ok()?;
-    log.extend_from_slice(&(payload.len() as u32).to_be_bytes())
-        .ok()?;
+    log.extend_from_slice(&length.to_be_bytes()).ok()?;
     log.extend_from_slice(&payload).ok()?;
     Some(())
 }
