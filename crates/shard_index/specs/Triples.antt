@@ -1,5 +1,6 @@
 -- When two awaited identifiers are the same one.
-use Rattle.std.specs.Prelude.{◌≡◌, Bool, true, ◌&&◌, ◌==◌, ◌++◌, refl}
+use Rattle.std.specs.Prelude.{◌≡◌, Bool, true, ◌&&◌, ◌==◌, not, List, [], ◌∷◌, ◌++◌, refl}
+use Rattle.std.specs.List.{list_any}
 use Rattle.std.proofs.Common.{sym, ap, ◌∙◌, bytes_eq, eqb-true, eq-eqb}
 use Rattle.std.specs.Cmp.{IsEquivalence, both_ways}
 use Rattle.std.specs.Hash as fed
@@ -43,3 +44,11 @@ triple_writes a = fed.str a.publisher ++ fed.u64 a.incarnation ++ fed.u16 a.id
 
 pub same_triple_fed : (a b : Awaited) → same_triple a b ≡ true → triple_writes a ≡ triple_writes b
 same_triple_fed a b h = ap triple_writes (same_triple_is a b h)
+
+-- each is another one than those before it
+abbrev pub are_new_behind : List Awaited → List Awaited → Bool
+are_new_behind before [] = true
+are_new_behind before (a ∷ awaited) = not (list_any (same_triple a) before) && are_new_behind (before ++ a ∷ []) awaited
+
+abbrev pub are_distinct : List Awaited → Bool
+are_distinct awaited = are_new_behind [] awaited

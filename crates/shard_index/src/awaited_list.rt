@@ -1,8 +1,8 @@
-ghost use Rattle.std.specs.Prelude.{◌≡◌, [], ◌++◌, ◌∷◌, not, filter, length, slice_get, if◌then◌else◌, IfOk, OnErr};
+ghost use Rattle.std.specs.Prelude.{◌≡◌, [], ◌++◌, ◌∷◌, true, not, filter, length, slice_get, if◌then◌else◌, Ok, IfOk, OnErr};
 ghost use Rattle.std.specs.List.{list_any, IsDistinct};
 ghost use Rattle.std.specs.Option.{option_copied};
 ghost use Rattle.shard_terms.specs.Storing.{is_awaited_as, is_of};
-ghost use Rattle.shard_index.specs.Triples.{same_triple};
+ghost use Rattle.shard_index.specs.Triples.{are_distinct, same_triple};
 
 use crate::identifiers::{Identifier, Identifiers};
 use crate::lists::{forget_in, release_in};
@@ -115,4 +115,20 @@ impl AwaitedList {
         unnote_all(&mut self.noted, publisher);
         forget_in(&mut self.order, publisher);
     }
+}
+
+/// Whether no identifier stands twice in a list: what `Index::new` asks of it.
+pub fn are_distinct(alloc: Global, list: &[Awaited]) -> Result<bool, AllocError>
+    ensures value { IfOk result (λ distinct. distinct ≡ are_distinct list.now) }
+    ensures distinct { result ≡ Ok true → IsDistinct same_triple list.now }
+{
+    let mut awaited = AwaitedList::new(alloc);
+    for triple in list {
+        let added = awaited.add(triple.copy()?)?;
+        if !added {
+            return Ok(false);
+        }
+    }
+    let _distinct = awaited.len();
+    Ok(true)
 }

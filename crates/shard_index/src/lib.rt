@@ -23,6 +23,7 @@ mod receipt;
 mod size;
 
 pub use awaited::Awaited;
+pub use awaited_list::are_distinct;
 pub use index::Index;
 pub use laws::{a_group_is_absorbed, operations_grow, operations_show};
 pub use op::{IndexOp, Publisher};
