@@ -1,5 +1,5 @@
 -- What an index makes of an operation. One that can't stand changes nothing.
-use Rattle.std.specs.Prelude.{ℕ, ◌+◌, ◌-◌, ◌^◌, ◌==◌, Bool, true, false, ◌&&◌, not, is_none, nat_lt, List, [], ◌∷◌, ◌++◌, map, filter, drop, Some}
+use Rattle.std.specs.Prelude.{ℕ, ◌+◌, ◌-◌, ◌^◌, ◌==◌, Bool, true, false, ◌&&◌, not, is_none, nat_lt, List, [], ◌∷◌, ◌++◌, map, filter, length, drop, Some}
 use Rattle.std.specs.List.{list_any}
 use Rattle.topic_name.specs.declared.descriptor.Descriptor.{Descriptor}
 use Rattle.topic_name.specs.KeptMessage.{KeptMessage}
@@ -99,6 +99,21 @@ kept_after Drop index = from_cuts (without_first index.cuts) index
 abbrev pub kept_after_all : List IndexOp → KeptIndex → KeptIndex
 kept_after_all [] index = index
 kept_after_all (op ∷ ops) index = kept_after_all ops (kept_after op index)
+
+-- ---- which operations of a list can stand
+
+-- A Release and a Forget take something away, and a Drop leaves a generation.
+abbrev pub stands : ShardList → IndexOp → Bool
+stands list (Add m) = may_add list m.stored
+stands list (Release a) = acts list (ToRelease a.publisher a.incarnation a.id)
+stands list (Forget p) = acts list (ToForget p.name p.incarnation)
+stands list (Rotate now cut) = may_begin list (cut_of cut)
+stands list Drop = nat_lt 1 (length list.cuts)
+
+-- each can, over the list that those before it leave
+abbrev pub all_stand : ShardList → List IndexOp → Bool
+all_stand list [] = true
+all_stand list (op ∷ ops) = stands list op && all_stand (absorbed op list) ops
 
 -- ---- what a message asks of what is awaited
 

@@ -2,16 +2,17 @@ ghost use Rattle.std.specs.Prelude.{◌≡◌, [], ◌++◌, ◌∷◌, true, no
 ghost use Rattle.std.specs.List.{list_any, IsDistinct};
 ghost use Rattle.std.specs.Option.{option_copied};
 ghost use Rattle.shard_terms.specs.Storing.{is_awaited_as, is_of};
+ghost use Rattle.shard_index.specs.Absorbing.{is_new};
 ghost use Rattle.shard_index.specs.Triples.{are_distinct, same_triple};
 
 use crate::identifiers::{Identifier, Identifiers};
-use crate::lists::{forget_in, release_in};
+use crate::lists::{count_of, forget_in, has_of, release_in};
 use crate::noted::{is_noted, note, unnote, unnote_all};
 use crate::{Awaited, Publisher};
 use indexmap::{IndexMap, IndexSet};
 use std::alloc::{AllocError, Global};
 use std::marker::Model;
-use topic_name::Name;
+use topic_name::{Message, Name};
 
 /// What is awaited, in the order in which it became so. Contracts see the list.
 #[derive(Drop)]
@@ -82,6 +83,27 @@ impl AwaitedList {
         ensures { result ≡ list_any (is_awaited_as publisher.now incarnation id) self.now }
     {
         is_noted(&self.noted, publisher, Identifier { incarnation, id })
+    }
+
+    /// How many are of a publisher's session.
+    pub fn count_of(&self, publisher: &Name, incarnation: u64) -> usize
+        ensures { result ≡ length (filter (is_of publisher.now incarnation) self.now) }
+    {
+        count_of(self.order.as_slice(), publisher, incarnation)
+    }
+
+    /// Whether one is of a publisher's session.
+    pub fn has_of(&self, publisher: &Name, incarnation: u64) -> bool
+        ensures { result ≡ list_any (is_of publisher.now incarnation) self.now }
+    {
+        has_of(self.order.as_slice(), publisher, incarnation)
+    }
+
+    /// Whether a message, where it is of QoS 2, has an identifier that isn't awaited.
+    pub fn takes(&self, message: &Message) -> bool
+        ensures { result ≡ is_new self.now message.now.stored }
+    {
+        message.qos != 2 || !self.has(&message.publisher, message.incarnation, message.id)
     }
 
     /// Adds one behind the others, or gives false where it is there.

@@ -1,15 +1,15 @@
-ghost use Rattle.std.specs.Prelude.{◌≡◌, ◌+◌, ◌<◌, ◌≤◌, ◌==◌, ◌-◌, ◌^◌, ◌&&◌, [], ◌∷◌, length, slice_get, Some, None, IsTrue, IsOk, IsSome, ◌↔◌, IfOk, OnOk, OnErr, if◌then◌else◌};
+ghost use Rattle.std.specs.Prelude.{◌≡◌, ◌+◌, ◌<◌, ◌≤◌, ◌==◌, ◌-◌, ◌^◌, ◌&&◌, [], ◌∷◌, filter, length, slice_get, Some, None, IsTrue, IsOk, IsSome, ◌↔◌, IfOk, OnOk, OnErr, if◌then◌else◌};
 ghost use Rattle.std.specs.List.{IsDistinct};
 ghost use Rattle.std.specs.Option.{option_copied};
 ghost use Rattle.shard_terms.specs.ShardList.{floor_of, next_of, newest};
-ghost use Rattle.shard_terms.specs.Storing.{awaits};
+ghost use Rattle.shard_terms.specs.Storing.{awaits, is_of};
 ghost use Rattle.shard_terms.specs.Lists.{IsList};
 ghost use Rattle.shard_terms.specs.Capacity.{store_size};
 ghost use Rattle.shard_index.specs.Triples.{same_triple};
 ghost use Rattle.shard_index.specs.KeptIndex.{cut_of, kept_at, list_of};
 ghost use Rattle.shard_index.specs.Sound.{newest_bytes};
 ghost use Rattle.shard_index.specs.SoundLaws.{may_be_next, takes_one_more};
-ghost use Rattle.shard_index.specs.Absorbing.{absorbed, added_if, forgotten, from_cuts, has_place, kept_after, may_add, may_begin, released, rotated_if, takes_no_memory, without_first};
+ghost use Rattle.shard_index.specs.Absorbing.{absorbed, added_if, forgotten, from_cuts, has_place, kept_after, may_add, may_begin, released, rotated_if, stands, takes_no_memory, without_first};
 
 use crate::awaited_list::AwaitedList;
 use crate::lists::{add_to, begin_in, copies_of, drop_front, is_after, newest_in, oldest_in};
@@ -176,7 +176,41 @@ impl Index {
         self.awaited.get(place)
     }
 
+    /// How many identifiers of a publisher's session are awaited. It goes through all that are.
+    pub fn awaited_of(&self, publisher: &Name, incarnation: u64) -> usize
+        ensures { result ≡ length (filter (is_of publisher.now incarnation) self.now.awaited) }
+    {
+        self.awaited.count_of(publisher, incarnation)
+    }
+
     // ---- operations
+
+    /// Whether an operation can stand: `absorb` says where one can't.
+    pub fn stands(&self, op: &IndexOp) -> bool
+        ensures { result ≡ stands (list_of self.now) op.now }
+    {
+        match op {
+            IndexOp::Add(message) => self.may_add(message),
+            IndexOp::Release(awaited) => {
+                self.awaits(&awaited.publisher, awaited.incarnation, awaited.id)
+            }
+            IndexOp::Forget(publisher) => self
+                .awaited
+                .has_of(&publisher.name, publisher.incarnation),
+            IndexOp::Rotate { cut, .. } => self.may_begin(cut),
+            IndexOp::Drop => self.cuts.len() > 1,
+        }
+    }
+
+    // Whether a message has a place, and of QoS 2 its identifier isn't awaited.
+    fn may_add(&self, message: &Message) -> bool
+        ensures { result ≡ may_add (list_of self.now) message.now.stored }
+    {
+        if self.room_behind(message).is_none() {
+            return false;
+        }
+        self.awaited.takes(message)
+    }
 
     /// Lets an operation act. One that can't stand changes nothing: an Add whose offset isn't the next one or is the
     /// greatest, whose identifier of QoS 2 is awaited, or that the newest generation has no room for; a Rotate whose

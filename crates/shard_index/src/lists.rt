@@ -1,5 +1,6 @@
 // The lists of an index, each by itself.
 ghost use Rattle.std.specs.Prelude.{◌≡◌, ◌+◌, ◌<◌, ◌==◌, ◌&&◌, ◌++◌, ◌∷◌, [], not, drop, filter, map, length, vec_len, vec_capacity, if◌then◌else◌, IfOk, OnOk, OnErr};
+ghost use Rattle.std.specs.List.{list_any};
 ghost use Rattle.shard_terms.specs.ShardList.{newest_of, oldest_of};
 ghost use Rattle.shard_terms.specs.Storing.{becomes_awaited, is_awaited_as, is_of, triple_of};
 ghost use Rattle.shard_index.specs.KeptIndex.{cut_of};
@@ -10,7 +11,7 @@ use crate::{Awaited, Publisher};
 use indexmap::IndexSet;
 use std::alloc::AllocError;
 use std::collections::VecDeque;
-use topic_name::{Descriptor, Message};
+use topic_name::{Descriptor, Message, Name};
 
 // ---- generations
 
@@ -159,8 +160,39 @@ pub(crate) fn forget_in(awaited: &mut IndexSet<Awaited>, publisher: &Publisher)
     awaited.retain(|a| !is_of(publisher, a));
 }
 
+// Whether one of these is of a publisher's session.
+pub(crate) fn has_of(awaited: &[Awaited], publisher: &Name, incarnation: u64) -> bool
+    ensures { result ≡ list_any (is_of publisher.now incarnation) awaited.now }
+{
+    for triple in awaited {
+        if is_from(triple, publisher, incarnation) {
+            return true;
+        }
+    }
+    false
+}
+
+// How many of these are.
+pub(crate) fn count_of(awaited: &[Awaited], publisher: &Name, incarnation: u64) -> usize
+    ensures { result ≡ length (filter (is_of publisher.now incarnation) awaited.now) }
+{
+    let mut count = 0;
+    for triple in awaited {
+        if is_from(triple, publisher, incarnation) {
+            count += 1;
+        }
+    }
+    count
+}
+
+fn is_from(awaited: &Awaited, publisher: &Name, incarnation: u64) -> bool
+    ensures { result ≡ is_of publisher.now incarnation awaited.now }
+{
+    awaited.publisher.is(publisher) && awaited.incarnation == incarnation
+}
+
 fn is_of(publisher: &Publisher, awaited: &Awaited) -> bool
     ensures { result ≡ is_of publisher.now.name publisher.now.incarnation awaited.now }
 {
-    awaited.publisher.is(&publisher.name) && awaited.incarnation == publisher.incarnation
+    is_from(awaited, &publisher.name, publisher.incarnation)
 }
