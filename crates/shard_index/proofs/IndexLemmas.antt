@@ -1,5 +1,10 @@
 -- Of an index's fields, as its calls change them.
-use Rattle.std.proofs.Common.{◌≡◌, ℕ, ◌+◌, ◌-◌, ◌≤◌, Bool, true, false, nat_le, nat_lt, if◌then◌else◌, List, [], ◌∷◌, ◌++◌, length, drop, remove, get_or, Some, None, Result, Ok, Err, OnOk, refl, sym, ap, subst, ◌∙◌, arith}
+use Rattle.std.proofs.Common.{◌≡◌, ℕ, ◌+◌, ◌-◌, ◌<◌, ◌≤◌, Bool, true, false, nat_le, nat_lt, if◌then◌else◌, List, [], ◌∷◌, ◌++◌, length, take, drop, remove, get_or, Some, None, Result, Ok, Err, OnOk, is_ok, refl, sym, ap, subst, ◌∙◌, arith}
+use Rattle.std.specs.List.{list_all}
+use Rattle.std.proofs.Math.Seq.{take-length}
+use Rattle.std.proofs.lemmas.List.{length-take, take-append-le}
+use Rattle.std.proofs.lemmas.List.Folds.{list_all_at}
+use Rattle.std.proofs.lemmas.Bool.{and_parts}
 use Rattle.std.proofs.lemmas.Bool.Decides.{nat_tests}
 use Rattle.std.proofs.lemmas.Option.{none-some, same_Some}
 use Rattle.std.specs.Cmp.Derive.{both_true}
@@ -7,18 +12,23 @@ use Rattle.topic_name.specs.declared.descriptor.Descriptor.{Descriptor}
 use Rattle.topic_name.specs.KeptMessage.{KeptMessage}
 use Rattle.topic_terms.specs.Profile.{whole}
 use Rattle.shard_terms.specs.ShardList.{Cut, Awaited, ShardList, newest, next_of, newest_messages}
-use Rattle.shard_terms.specs.Storing.{becomes_awaited}
+use Rattle.shard_terms.specs.Storing.{Store, acts, becomes_awaited}
 use Rattle.shard_terms.specs.Capacity.{store_size}
-use Rattle.shard_index.specs.declared.op.IndexOp.TheVariants.{Drop}
+use Rattle.shard_index.specs.declared.op.IndexOp.TheVariants.{Add, Release, Forget, Rotate, Drop}
 use Rattle.shard_index.specs.KeptIndex.{KeptIndex, cut_of, list_of}
-use Rattle.shard_index.specs.Absorbing.{from_cuts, has_place, is_new, may_begin, sealed_last, without_first}
-use Rattle.shard_index.specs.AbsorbLaws.{list_added, list_after, list_begun}
+use Rattle.shard_index.specs.declared.op.IndexOp.{IndexOp}
+use Rattle.shard_index.specs.Absorbing.{IsBehind, absorbed, absorbed_all, added_if, all_stand, awaited_after, awaited_after_all, from_cuts, has_place, is_new, is_of_group, kept_after, kept_after_all, may_add, may_begin, sealed_last, stands, without_first}
+use Rattle.shard_index.specs.AbsorbLaws.{list_added, list_after, list_after_all, list_begun}
 use Rattle.shard_index.specs.Sound.{IsSound, newest_bytes}
 use Rattle.shard_index.specs.SoundLaws.{newest_first, newest_long, sound_added, sound_begun, sound_dropped, takes_one_more}
 
 pub on_ok : {T E P Q : Type 0} (r : Result T E) → (P → Q) → OnOk r P → OnOk r Q
 on_ok (Ok x) f p = f p
 on_ok (Err e) f p = tt
+
+pub when_ok : {T E P : Type 0} (r : Result T E) → is_ok r ≡ true → OnOk r P → P
+when_ok (Ok x) is p = p
+when_ok (Err e) is p = cc
 
 -- ---- the count of the newest generation
 
@@ -97,3 +107,70 @@ sound_after_drop index a b left cuts messages is two second first is_cuts ms =
     (sym (λ i. (is_cuts i, ms i)))
     (subst (λ (k : KeptIndex). IsSound (list_of k) left) (dropped_is index.cuts index.messages index.awaited a b two second first)
     (subst (λ l. IsSound l left) (sym (list_after Drop index)) (sound_dropped (list_of index) left is)))
+
+-- each operation of a group is one that a group may have
+of_group_at : (ops : List IndexOp) (k : ℕ) (op : IndexOp) → k < length ops → op ≡ get_or ops k op → list_all is_of_group ops ≡ true → is_of_group op ≡ true
+of_group_at ops k op within at group = by (is_of_group op) refl
+  where
+    by : (b : Bool) → is_of_group op ≡ b → is_of_group op ≡ true
+    by true e = e
+    by false e = let never = sym group ∙ list_all_at is_of_group ops k op within (ap is_of_group (sym at) ∙ e) in cc
+
+-- ---- a group leaves the generations, and the messages that there were
+
+pub behind_itself : (index : KeptIndex) → IsBehind index index
+behind_itself index = record { cuts = refl; messages = take-length index.messages }
+
+longer : {A : Type 0} (xs ys : List A) → take (length xs) ys ≡ xs → length xs ≤ length ys
+longer xs ys is = let e = sym (length-take (length xs) ys) ∙ ap length is in omega (arith, e)
+
+behind_added : (b : Bool) (m : KeptMessage) (index later : KeptIndex) → IsBehind index later → IsBehind index (added_if b m later)
+behind_added false m index later is = is
+behind_added true m index later is =
+    let shorter : length index.messages ≤ length later.messages = longer index.messages later.messages is.messages in
+    record { cuts = is.cuts; messages = take-append-le (length index.messages) later.messages (m ∷ []) shorter ∙ is.messages }
+
+pub behind_after : (op : IndexOp) (index later : KeptIndex) → is_of_group op ≡ true → IsBehind index later → IsBehind index (kept_after op later)
+behind_after (Add m) index later group is = behind_added (may_add (list_of later) m.stored) m index later is
+behind_after (Release a) index later group is = record { cuts = is.cuts; messages = is.messages }
+behind_after (Forget p) index later group is = record { cuts = is.cuts; messages = is.messages }
+behind_after (Rotate now cut) index later group is = cc
+behind_after Drop index later group is = cc
+
+pub behind_one_more : (ops : List IndexOp) (k : ℕ) (op : IndexOp) (index later : KeptIndex) → k < length ops → op ≡ get_or ops k op → list_all is_of_group ops ≡ true →
+    IsBehind index later → IsBehind index (kept_after op later)
+behind_one_more ops k op index later within at group is = behind_after op index later (of_group_at ops k op within at group) is
+
+-- ---- what is awaited after a group follows from what was, by its operations alone
+
+followed_add : (b : Bool) (m : KeptMessage) (index : KeptIndex) → may_add (list_of index) m.stored ≡ b → b ≡ true →
+    (added_if b m index).awaited ≡ (if is_new index.awaited m.stored then index.awaited ++ becomes_awaited m.stored else index.awaited)
+followed_add false m index may stand = cc
+followed_add true m index may stand =
+    let new : is_new index.awaited m.stored ≡ true = (and_parts (has_place (list_of index) m.stored) (acts (list_of index) (Store m.stored)) may).1 in
+    ap (λ (b : Bool). if b then index.awaited ++ becomes_awaited m.stored else index.awaited) (sym new)
+
+followed_op : (op : IndexOp) (index : KeptIndex) → stands (list_of index) op ≡ true → is_of_group op ≡ true →
+    (kept_after op index).awaited ≡ awaited_after op index.awaited
+followed_op (Add m) index stand group = followed_add (may_add (list_of index) m.stored) m index refl stand
+followed_op (Release a) index stand group = refl
+followed_op (Forget p) index stand group = refl
+followed_op (Rotate now cut) index stand group = cc
+followed_op Drop index stand group = cc
+
+followed : (ops : List IndexOp) (index : KeptIndex) → all_stand (list_of index) ops ≡ true → list_all is_of_group ops ≡ true →
+    (kept_after_all ops index).awaited ≡ awaited_after_all ops index.awaited
+followed [] index stand group = refl
+followed (op ∷ ops) index stand group =
+    let stands_both = and_parts (stands (list_of index) op) (all_stand (absorbed op (list_of index)) ops) stand in
+    let group_both = and_parts (is_of_group op) (list_all is_of_group ops) group in
+    followed ops (kept_after op index) (ap (λ l. all_stand l ops) (list_after op index) ∙ stands_both.1) group_both.1
+    ∙ ap (awaited_after_all ops) (followed_op op index stands_both.0 group_both.0)
+
+pub twin_again : (ops : List IndexOp) (before later : KeptIndex) (twin awaited : List Awaited) → all_stand (list_of before) ops ≡ true → list_all is_of_group ops ≡ true →
+    later ≡ kept_after_all ops before → awaited ≡ before.awaited → twin ≡ awaited_after_all ops awaited → twin ≡ later.awaited
+twin_again ops before later twin awaited stand group kept was follows =
+    follows ∙ ap (awaited_after_all ops) was ∙ sym (followed ops before stand group) ∙ ap (λ (k : KeptIndex). k.awaited) (sym kept)
+
+pub shown : (ops : List IndexOp) (before mid later : KeptIndex) → mid ≡ before → later ≡ kept_after_all ops mid → list_of later ≡ absorbed_all ops (list_of before)
+shown ops before mid later same kept = ap list_of (kept ∙ ap (kept_after_all ops) same) ∙ list_after_all ops before

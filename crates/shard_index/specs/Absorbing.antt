@@ -1,6 +1,6 @@
 -- What an index makes of an operation. One that can't stand changes nothing.
-use Rattle.std.specs.Prelude.{ℕ, ◌+◌, ◌-◌, ◌^◌, ◌==◌, Bool, true, false, ◌&&◌, not, is_none, nat_lt, List, [], ◌∷◌, ◌++◌, map, filter, length, drop, Some}
-use Rattle.std.specs.List.{list_any}
+use Rattle.std.specs.Prelude.{ℕ, ◌≡◌, ◌+◌, ◌-◌, ◌^◌, ◌==◌, Bool, true, false, ◌&&◌, not, is_none, nat_lt, List, [], ◌∷◌, ◌++◌, map, filter, length, take, drop, if◌then◌else◌, Some}
+use Rattle.std.specs.List.{list_all, list_any}
 use Rattle.topic_name.specs.declared.descriptor.Descriptor.{Descriptor}
 use Rattle.topic_name.specs.KeptMessage.{KeptMessage}
 use Rattle.topic_terms.specs.Profile.{Profile, whole, unlearned}
@@ -120,6 +120,36 @@ all_stand list (op ∷ ops) = stands list op && all_stand (absorbed op list) ops
 -- of QoS 2 its identifier isn't awaited
 abbrev pub is_new : List Awaited → StoredMessage → Bool
 is_new awaited m = not ((m.qos == 2) && list_any (is_awaited_as m.publisher m.incarnation m.id) awaited)
+
+-- ---- the operations of a group
+
+-- a group has no Rotate and no Drop
+abbrev pub is_of_group : IndexOp → Bool
+is_of_group (Add m) = true
+is_of_group (Release a) = true
+is_of_group (Forget p) = true
+is_of_group (Rotate now cut) = false
+is_of_group Drop = false
+
+abbrev pub are_of_group : List IndexOp → Bool
+are_of_group ops = list_all is_of_group ops
+
+-- what is awaited after operations that can stand
+abbrev pub awaited_after : IndexOp → List Awaited → List Awaited
+awaited_after (Add m) awaited = if is_new awaited m.stored then awaited ++ becomes_awaited m.stored else awaited
+awaited_after (Release a) awaited = filter (λ b. not (is_awaited_as a.publisher a.incarnation a.id b)) awaited
+awaited_after (Forget p) awaited = filter (λ b. not (is_of p.name p.incarnation b)) awaited
+awaited_after (Rotate now cut) awaited = awaited
+awaited_after Drop awaited = awaited
+
+abbrev pub awaited_after_all : List IndexOp → List Awaited → List Awaited
+awaited_after_all [] awaited = awaited
+awaited_after_all (op ∷ ops) awaited = awaited_after_all ops (awaited_after op awaited)
+
+-- the same generations, and messages behind those that there were
+pub record IsBehind (index later : KeptIndex) : Type 0 where
+  pub cuts : later.cuts ≡ index.cuts
+  pub messages : take (length index.messages) later.messages ≡ index.messages
 
 -- ---- which operations take no memory
 

@@ -1,4 +1,4 @@
-ghost use Rattle.std.specs.Prelude.{◌≡◌, ◌+◌, ◌<◌, ◌≤◌, ◌==◌, ◌-◌, ◌^◌, ◌&&◌, [], ◌∷◌, filter, length, slice_get, Some, None, IsTrue, IsOk, IsSome, ◌↔◌, IfOk, OnOk, OnErr, if◌then◌else◌};
+ghost use Rattle.std.specs.Prelude.{◌≡◌, ◌+◌, ◌<◌, ◌≤◌, ◌==◌, ◌-◌, ◌^◌, ◌&&◌, [], ◌∷◌, filter, take, length, slice_get, Some, None, IsTrue, IsOk, IsSome, ◌↔◌, IfOk, OnOk, OnErr, if◌then◌else◌};
 ghost use Rattle.std.specs.List.{IsDistinct};
 ghost use Rattle.std.specs.Option.{option_copied};
 ghost use Rattle.shard_terms.specs.ShardList.{floor_of, next_of, newest};
@@ -9,15 +9,18 @@ ghost use Rattle.shard_index.specs.Triples.{same_triple};
 ghost use Rattle.shard_index.specs.KeptIndex.{cut_of, kept_at, list_of};
 ghost use Rattle.shard_index.specs.Sound.{newest_bytes};
 ghost use Rattle.shard_index.specs.SoundLaws.{may_be_next, takes_one_more};
-ghost use Rattle.shard_index.specs.Absorbing.{absorbed, added_if, forgotten, from_cuts, has_place, kept_after, may_add, may_begin, released, rotated_if, stands, takes_no_memory, without_first};
+ghost use Rattle.shard_index.specs.Absorbing.{IsBehind, absorbed, absorbed_all, added_if, all_stand, are_of_group, forgotten, from_cuts, has_place, kept_after, kept_after_all, may_add, may_begin, released, rotated_if, stands, takes_no_memory, without_first};
 
 use crate::awaited_list::AwaitedList;
-use crate::lists::{add_to, begin_in, copies_of, drop_front, is_after, newest_in, oldest_in};
+use crate::lists::{
+    add_to, begin_in, copies_of, drop_front, follow_all, is_after, newest_in, oldest_in,
+};
 use crate::size::{GENERATION_BYTES, left_behind};
 use crate::{Awaited, IndexOp, Publisher};
 use std::alloc::{AllocError, Global};
 use std::collections::VecDeque;
 use std::marker::Model;
+use std::mem::replace;
 use topic_name::{Descriptor, Message, Name};
 
 /// The list of a shard in memory. Contracts see `KeptIndex`, and by `list_of` the model's list.
@@ -26,11 +29,14 @@ pub struct Index {
     cuts: Vec<Descriptor>,
     messages: VecDeque<Message>,
     awaited: AwaitedList,
+    // What is awaited once more, where the next group needs no copy of it.
+    twin: Option<AwaitedList>,
     // The bytes that the newest generation has left.
     room: usize,
 }
 
 impl Model for Index {
+    ghost use Rattle.std.specs.Prelude.{◌≡◌, IfSome};
     ghost use Rattle.shard_index.specs.KeptIndex.{KeptIndex, list_of};
     ghost use Rattle.shard_index.specs.Sound.{IsSound};
 
@@ -46,7 +52,8 @@ impl Model for Index {
       cuts = i.cuts.items;
       messages = i.messages.items;
       awaited = i.awaited;
-    })) i.room };
+    })) i.room
+        × IfSome i.twin (λ twin. twin ≡ i.awaited) };
 }
 
 impl Index {
@@ -64,6 +71,7 @@ impl Index {
             cuts,
             messages: VecDeque::new(alloc),
             awaited,
+            twin: None,
             room: GENERATION_BYTES,
         })
     }
@@ -79,6 +87,7 @@ impl Index {
             cuts,
             messages,
             awaited,
+            twin: None,
             room: self.room,
         })
     }
@@ -240,6 +249,86 @@ impl Index {
         }
     }
 
+    /// Lets the operations of a group act, all of them or none: on want of memory nothing changes.
+    pub fn absorb_all(&mut self, ops: &[IndexOp]) -> Result<(), AllocError>
+        // They are Adds, Releases and Forgets, and each can stand over the list that those before it leave.
+        requires group { IsTrue (are_of_group ops.now) }
+        requires stand { IsTrue (all_stand (list_of self.old) ops.now) }
+        ensures list { OnOk result (list_of self.new ≡ absorbed_all ops.now (list_of self.old)) }
+        ensures kept { OnOk result (self.new ≡ kept_after_all ops.now self.old) }
+        ensures memory { OnErr result (self.new ≡ self.old) }
+    {
+        let mut before = self.take_twin()?;
+        let length = self.messages.len();
+        let bytes = self.newest_bytes();
+        if let Err(error) = self.absorb_each(ops) {
+            self.go_back(before, length, bytes);
+            return Err(error);
+        }
+        if follow_all(&mut before, ops).is_ok() {
+            self.keep_twin(before);
+        }
+        Ok(())
+    }
+
+    // What is awaited, as another list takes its place that is equal.
+    fn take_twin(&mut self) -> Result<AwaitedList, AllocError>
+        ensures same { self.new ≡ self.old }
+        ensures taken { IfOk result (λ taken. taken ≡ self.old.awaited) }
+    {
+        let twin = match self.twin.take() {
+            Some(twin) => twin,
+            None => self.awaited.copy()?,
+        };
+        Ok(replace(&mut self.awaited, twin))
+    }
+
+    // Keeps an equal list for the next group.
+    fn keep_twin(&mut self, twin: AwaitedList)
+        requires { twin ≡ self.old.awaited }
+        ensures { self.new ≡ self.old }
+    {
+        self.twin = Some(twin);
+    }
+
+    // Puts back what was awaited, and takes the messages away behind so many.
+    fn go_back(&mut self, awaited: AwaitedList, length: usize, bytes: usize)
+        requires order { IsList (list_of (record self.old {
+          messages = take length self.old.messages;
+          awaited = awaited;
+        })) }
+        requires end { next_of (list_of (record self.old {
+          messages = take length self.old.messages;
+          awaited = awaited;
+        })) < 2 ^ 64 }
+        requires bytes { bytes ≡ newest_bytes (list_of (record self.old {
+          messages = take length self.old.messages;
+          awaited = awaited;
+        })) }
+        requires room { bytes ≤ GENERATION_BYTES }
+        ensures { self.new ≡ record self.old {
+          messages = take length self.old.messages;
+          awaited = awaited;
+        } }
+    {
+        self.twin = None;
+        self.awaited = awaited;
+        self.messages.truncate(length);
+        self.room = GENERATION_BYTES - bytes;
+    }
+
+    // Lets operations act one after the other.
+    fn absorb_each(&mut self, ops: &[IndexOp]) -> Result<(), AllocError>
+        requires group { IsTrue (are_of_group ops.now) }
+        ensures kept { OnOk result (self.new ≡ kept_after_all ops.now self.old) }
+        ensures behind { OnErr result (IsBehind self.old self.new) }
+    {
+        for op in ops {
+            self.absorb(op)?;
+        }
+        Ok(())
+    }
+
     fn add(&mut self, message: &Message) -> Result<(), AllocError>
         ensures added { OnOk result (self.new
             ≡ added_if (may_add (list_of self.old) message.now.stored) message.now self.old) }
@@ -248,6 +337,7 @@ impl Index {
         let Some(room) = self.room_behind(message) else {
             return Ok(());
         };
+        self.twin = None;
         let added = add_to(&mut self.messages, &mut self.awaited, message)?;
         self.room = if_added(added, room, self.room);
         Ok(())
@@ -276,12 +366,14 @@ impl Index {
     fn release(&mut self, awaited: &Awaited)
         ensures { self.new ≡ released awaited.now self.old }
     {
+        self.twin = None;
         self.awaited.release(awaited);
     }
 
     fn forget(&mut self, publisher: &Publisher)
         ensures { self.new ≡ forgotten publisher.now self.old }
     {
+        self.twin = None;
         self.awaited.forget(publisher);
     }
 

@@ -4,10 +4,10 @@ ghost use Rattle.std.specs.List.{list_any};
 ghost use Rattle.shard_terms.specs.ShardList.{newest_of, oldest_of};
 ghost use Rattle.shard_terms.specs.Storing.{becomes_awaited, is_awaited_as, is_of, triple_of};
 ghost use Rattle.shard_index.specs.KeptIndex.{cut_of};
-ghost use Rattle.shard_index.specs.Absorbing.{is_new, sealed_last};
+ghost use Rattle.shard_index.specs.Absorbing.{awaited_after, awaited_after_all, is_new, sealed_last};
 
 use crate::awaited_list::AwaitedList;
-use crate::{Awaited, Publisher};
+use crate::{Awaited, IndexOp, Publisher};
 use indexmap::IndexSet;
 use std::alloc::AllocError;
 use std::collections::VecDeque;
@@ -141,6 +141,32 @@ fn triple_of(message: &Message) -> Result<Awaited, AllocError>
         incarnation: message.incarnation,
         id: message.id,
     })
+}
+
+// Lets an operation of a group act on what is awaited alone.
+fn follow(awaited: &mut AwaitedList, op: &IndexOp) -> Result<(), AllocError>
+    ensures { OnOk result (awaited.new ≡ awaited_after op.now awaited.old) }
+{
+    match op {
+        IndexOp::Add(message) => {
+            await_in(awaited, message)?;
+        }
+        IndexOp::Release(released) => awaited.release(released),
+        IndexOp::Forget(publisher) => awaited.forget(publisher),
+        IndexOp::Rotate { .. } => {}
+        IndexOp::Drop => {}
+    }
+    Ok(())
+}
+
+// The same of all operations of a group, in order. On want of memory some have acted.
+pub(crate) fn follow_all(awaited: &mut AwaitedList, ops: &[IndexOp]) -> Result<(), AllocError>
+    ensures { OnOk result (awaited.new ≡ awaited_after_all ops.now awaited.old) }
+{
+    for op in ops {
+        follow(awaited, op)?;
+    }
+    Ok(())
 }
 
 pub(crate) fn release_in(awaited: &mut IndexSet<Awaited>, released: &Awaited)

@@ -13,6 +13,8 @@ invariant_of-self-2 c =
     let m = c.args.message.now in
     let found = c.in-Some.ensures
     ∙ ap (λ (k : KeptIndex). if has_place (list_of k) m.stored then Some (whole.generation_bytes - (newest_bytes (list_of k) + store_size m.stored)) else None)
-    (sym c.self.view_is) in
-    sound_after_add index m c.self.inside.room c.in-Some.room c.if_added-self-inside.result c.in_ok-added.added c.add_to.new.messages.items c.add_to.new.awaited
-    c.self.invariant found c.in_ok-added.ensures.added c.in_ok-added.ensures.messages c.in_ok-added.ensures.awaited c.if_added-self-inside.ensures
+    (sym c.self.view_is) in (
+      sound_after_add index m c.self.inside.room c.in-Some.room c.if_added-self-inside.result c.in_ok-added.added c.add_to.new.messages.items c.add_to.new.awaited
+          c.self.invariant.0 found c.in_ok-added.ensures.added c.in_ok-added.ensures.messages c.in_ok-added.ensures.awaited c.if_added-self-inside.ensures,
+      tt,
+    )

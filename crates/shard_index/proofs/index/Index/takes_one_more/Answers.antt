@@ -10,7 +10,7 @@ overflow_sub-result c =
     let index : KeptIndex = record { cuts = c.self.inside.cuts.items; messages = c.self.inside.messages.items; awaited = c.self.inside.awaited } in
     let at = c.newest_in-newest.ensures ∙ ap (λ l. newest_of (map cut_of l)) c.deref.ensures.value in
     let next = c.next_offset.ensures ∙ ap (λ (k : KeptIndex). next_of (list_of k)) (sym c.self.view_is) in
-    let within = first_within (list_of index) c.newest_in-newest.result.now c.self.inside.room c.self.invariant at in
+    let within = first_within (list_of index) c.newest_in-newest.result.now c.self.inside.room c.self.invariant.0 at in
     omega arith
 
 pub returns : goal.returns
@@ -20,5 +20,5 @@ returns c =
     let next = c.next_offset.ensures ∙ ap (λ (k : KeptIndex). next_of (list_of k)) (sym c.self.view_is) in
     ap (λ n. nat_lt (n - c.newest_in-newest.result.now.first) c.into.result) next
     ∙ ap (λ n. nat_lt (next_of (list_of index) - c.newest_in-newest.result.now.first) n) c.into.ensures
-    ∙ count_test (list_of index) c.newest_in-newest.result.now c.self.inside.room c.self.invariant at
+    ∙ count_test (list_of index) c.newest_in-newest.result.now c.self.inside.room c.self.invariant.0 at
     ∙ ap (λ (k : KeptIndex). takes_one_more (list_of k)) c.self.view_is
