@@ -20,6 +20,7 @@ mod lists;
 mod noted;
 mod op;
 mod receipt;
+mod refused;
 mod size;
 
 pub use awaited::Awaited;
@@ -28,4 +29,5 @@ pub use index::Index;
 pub use laws::{a_group_is_absorbed, operations_grow, operations_show};
 pub use op::{IndexOp, Publisher};
 pub use receipt::Receipt;
+pub use refused::AppendRefused;
 pub use size::GENERATION_BYTES;
