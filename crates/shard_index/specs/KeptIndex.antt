@@ -29,3 +29,12 @@ list_of index = record { cuts = map cut_of index.cuts; messages = map stored_of 
 abbrev pub kept_at : KeptIndex → ℕ → Option KeptMessage
 kept_at index offset =
     if nat_lt offset (floor_of (list_of index)) then None else slice_get index.messages (offset - floor_of (list_of index))
+
+-- ---- receipts
+
+-- of a group that was stored: its shard, the offsets of its first message and of the next one behind it, and the list with it
+pub record ToldReceipt : Type 0 where
+  pub shard : ℕ
+  pub first : ℕ
+  pub next : ℕ
+  pub list : ShardList
