@@ -9,83 +9,59 @@ made before mounting and reading: what a mount of 2000 reads stays in a processo
 program and not of them. Times are processor time. What is compared is run in turn, five times, and the least time of
 each counts.
 """
-import os
-import subprocess
 import sys
 
-CRATE = os.path.join("crates", "log_bench")
-PROGRAM = os.path.join(CRATE, "out", "log_bench")
+from timing import Program, ratio
+
 MOST = 1000000
 FEW = 1000
+RATIO = 2.5
 
 
-def build():
-    if not os.path.exists(PROGRAM):
-        subprocess.run(["rt", "run", "--", "commits", "1"], cwd=CRATE, stdout=sys.stderr, check=True)
+def is_right(words, text):
+    return text.startswith(words[1] + " records")
 
 
-def run(*words):
-    words = [str(word) for word in words]
-    child = subprocess.Popen([PROGRAM, *words], stdout=subprocess.PIPE)
-    text = child.stdout.read().decode()
-    _, status, usage = os.wait4(child.pid, 0)
-    child.returncode = os.waitstatus_to_exitcode(status)
-    if child.returncode != 0 or not text.startswith(words[1] + " records"):
-        sys.exit(f"{' '.join(words)}: status {child.returncode}, {text.strip()!r}")
-    return usage.ru_utime + usage.ru_stime
-
-
-def least(*calls):
-    return [min(times) for times in zip(*([run(*call) for call in calls] for _ in range(5)))]
-
-
-def count_to_take(seconds):
+def count_to_take(program, seconds):
     count = 50
-    while 4 * count <= MOST and run("commits", 2 * count) < seconds:
+    while 4 * count <= MOST and program.seconds(("commits", 2 * count), is_right) < seconds:
         count *= 2
     return count
 
 
-def mounts_to_take(count):
-    [alone], mounts = least(("mounts", count, 0)), 1000
-    while 4 * mounts <= MOST and run("mounts", count, mounts) - alone < 0.5:
+def mounts_to_take(program, count):
+    [alone], mounts = program.least(is_right, ("mounts", count, 0)), 1000
+    while 4 * mounts <= MOST and program.seconds(("mounts", count, mounts), is_right) - alone < 0.5:
         mounts *= 4
     return mounts
 
 
-def ratio(name, first, second):
-    if min(first, second) <= 0:
-        sys.exit(f"{name}: too short to be timed")
-    print(f"{name}: {first:.3f} s, {second:.3f} s, ratio {second / first:.2f}", flush=True)
-    return second / first
+def commits(program, asked):
+    count = asked or count_to_take(program, 1 / 3)
+    first, second = program.least(is_right, ("commits", count), ("commits", 2 * count))
+    return ratio(f"{count} and {2 * count} commits", first, second, RATIO)
 
 
-def commits(asked):
-    count = asked or count_to_take(1 / 3)
-    first, second = least(("commits", count), ("commits", 2 * count))
-    return ratio(f"{count} and {2 * count} commits", first, second)
-
-
-def mounting(asked):
+def mounting(program, asked):
     count = asked or FEW
-    mounts = mounts_to_take(count)
+    mounts = mounts_to_take(program, count)
     calls = [("mounts", records, times) for records in (count, 2 * count) for times in (mounts, 0)]
-    first, alone, second, second_alone = least(*calls)
-    return ratio(f"{mounts} mounts of {count} and of {2 * count} records", first - alone, second - second_alone)
+    first, alone, second, second_alone = program.least(is_right, *calls)
+    return ratio(f"{mounts} mounts of {count} and of {2 * count} records", first - alone, second - second_alone, RATIO)
 
 
-def reading(asked):
+def reading(program, asked):
     count = asked or FEW
     calls = [("entries", count, entry, times) for entry in (0, count - 1) for times in (MOST, 0)]
-    first, alone, last, last_alone = least(*calls)
-    return ratio(f"{MOST} readings of the first and of the last of {count} records", first - alone, last - last_alone)
+    first, alone, last, last_alone = program.least(is_right, *calls)
+    return ratio(f"{MOST} readings of the first and of the last of {count} records", first - alone, last - last_alone, RATIO)
 
 
 def main():
     asked = int(sys.argv[1]) if len(sys.argv) > 1 else None
-    build()
-    ratios = [measure(asked) for measure in (commits, mounting, reading)]
-    return 1 if max(ratios) > 2.5 else 0
+    program = Program("log_bench", "commits", 1)
+    good = [measure(program, asked) for measure in (commits, mounting, reading)]
+    return 0 if all(good) else 1
 
 
 if __name__ == "__main__":

@@ -8,13 +8,12 @@ the bytes that a session keeps which began and did nothing. It ends with 1 where
 others above 2.3. Times are processor time. What is compared is run in turn, five times, and the least time of each counts;
 what a run needs before what is timed is taken off. The memory is that which the program needs at least, found by halves.
 """
-import os
 import resource
 import subprocess
 import sys
 
-CRATE = os.path.join("crates", "session_bench")
-PROGRAM = os.path.join(CRATE, "out", "session_bench")
+from timing import Program, ratio
+
 COMMITS = 200000
 RECORDS = 4000
 MOUNTS = 100
@@ -22,28 +21,15 @@ SESSIONS = 2000
 SNAPSHOTS = 2000
 
 
-def build():
-    if not os.path.exists(PROGRAM):
-        subprocess.run(["rt", "run", "--", "commits", "1", "1"], cwd=CRATE, stdout=sys.stderr, check=True)
+def is_right(words, text):
+    return text.endswith(" done\n")
 
 
-def run(*words):
-    """Processor seconds."""
-    words = [str(word) for word in words]
-    child = subprocess.Popen([PROGRAM, *words], stdout=subprocess.PIPE)
-    text = child.stdout.read().decode()
-    _, status, usage = os.wait4(child.pid, 0)
-    child.returncode = os.waitstatus_to_exitcode(status)
-    if child.returncode != 0 or not text.endswith(" done\n"):
-        sys.exit(f"{' '.join(words)}: status {child.returncode}, {text.strip()!r}")
-    return usage.ru_utime + usage.ru_stime
-
-
-def is_enough(limit, *words):
+def is_enough(program, limit, *words):
     """Whether the program does what the words ask with so many bytes of memory."""
     words = [str(word) for word in words]
     done = subprocess.run(
-        [PROGRAM, *words],
+        [program.path, *words],
         stdout=subprocess.PIPE,
         stderr=subprocess.DEVNULL,
         preexec_fn=lambda: resource.setrlimit(resource.RLIMIT_DATA, (limit, limit)),
@@ -51,41 +37,30 @@ def is_enough(limit, *words):
     return done.returncode == 0
 
 
-def bytes_needed(*words):
+def bytes_needed(program, *words):
     low, high = 0, 1 << 28
     while high - low > 4096:
         middle = (low + high) // 2
-        if is_enough(middle, *words):
+        if is_enough(program, middle, *words):
             high = middle
         else:
             low = middle
     return high
 
 
-def least(*calls):
-    return [min(times) for times in zip(*([run(*call) for call in calls] for _ in range(5)))]
-
-
-def ratio(name, first, second, most):
-    if min(first, second) <= 0:
-        sys.exit(f"{name}: too short to be timed")
-    print(f"{name}: {first:.3f} s, {second:.3f} s, ratio {second / first:.2f}, at most {most}", flush=True)
-    return second / first <= most
-
-
 def main():
-    build()
-    few, many = least(("commits", COMMITS, 10), ("commits", COMMITS, 500))
+    program = Program("session_bench", "commits", 1, 1)
+    few, many = program.least(is_right, ("commits", COMMITS, 10), ("commits", COMMITS, 500))
     good = ratio("commits with 10 and with 500 unfinished", few, many, 1.5)
-    alone, mounts, alone2, mounts2 = least(
-        ("mounts", RECORDS, 0), ("mounts", RECORDS, MOUNTS), ("mounts", 2 * RECORDS, 0), ("mounts", 2 * RECORDS, MOUNTS)
+    alone, mounts, alone2, mounts2 = program.least(
+        is_right, ("mounts", RECORDS, 0), ("mounts", RECORDS, MOUNTS), ("mounts", 2 * RECORDS, 0), ("mounts", 2 * RECORDS, MOUNTS)
     )
     good &= ratio(f"mounts of {RECORDS} and of {2 * RECORDS} records", mounts - alone, mounts2 - alone2, 2.3)
-    alone, written, alone2, written2 = least(
-        ("snapshots", SESSIONS, 0), ("snapshots", SESSIONS, SNAPSHOTS), ("snapshots", 2 * SESSIONS, 0), ("snapshots", 2 * SESSIONS, SNAPSHOTS)
+    alone, written, alone2, written2 = program.least(
+        is_right, ("snapshots", SESSIONS, 0), ("snapshots", SESSIONS, SNAPSHOTS), ("snapshots", 2 * SESSIONS, 0), ("snapshots", 2 * SESSIONS, SNAPSHOTS)
     )
     good &= ratio(f"snapshots of {SESSIONS} and of {2 * SESSIONS} sessions", written - alone, written2 - alone2, 2.3)
-    few, many = bytes_needed("snapshots", SESSIONS, 0), bytes_needed("snapshots", 2 * SESSIONS, 0)
+    few, many = bytes_needed(program, "snapshots", SESSIONS, 0), bytes_needed(program, "snapshots", 2 * SESSIONS, 0)
     print(f"an idle session: {(many - few) / SESSIONS:.0f} bytes, {few} for {SESSIONS} and {many} for {2 * SESSIONS}")
     return 0 if good else 1
 
