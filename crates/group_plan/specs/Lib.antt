@@ -1,0 +1,15 @@
+pub mod Plan
+pub mod Asking
+pub mod Keeping
+pub mod Counting
+pub mod Room
+pub mod FilterLaws
+pub mod CountLaws
+pub mod KeepLaws
+pub mod RoomLaws
+pub mod StandLaws
+pub mod PlanLaws
+pub mod Planning
+pub mod StoreLaws
+pub mod AskingLaws
+pub mod Examples

@@ -1,0 +1,219 @@
+-- The logs of all slots are mounted: what they hold then, and what a crash leaves meanwhile.
+use Rattle.std.proofs.Common.{◌≡◌, ◌⊎◌, inl, inr, ℕ, zero, suc, ◌+◌, ◌-◌, ◌^◌, ◌<◌, ◌≤◌, Bool, true, false, if◌then◌else◌, IsTrue, List, [], ◌∷◌, ◌++◌, length, map, None, Option, Some, refl, sym, ap, subst, ◌∙◌, arith}
+use Rattle.std.proofs.lemmas.Bool.{true≢false}
+use Rattle.std.specs.List.{list_all}
+use Rattle.outside.specs.Along.{WithinBoth, left_between}
+use Rattle.outside.specs.DiskModel.{DiskState}
+use Rattle.gated_log.specs.Calls.{ImagesHave}
+use Rattle.gated_log.specs.Closing.{with_gate}
+use Rattle.gated_log.specs.PlainLog.{AllHave, AtRest, PlainLog, end_of}
+use Rattle.gated_log.specs.Records.{Front, and_front, front_record, records, records_within, rest_of}
+use Rattle.pair_log.specs.declared.side.Side.{Side}
+use Rattle.pair_log.specs.declared.side.Side.TheVariants.{First, Second}
+use Rattle.pair_log.specs.Epochs.{active_records, epoch_of, is_later, read_pair, second_counts}
+use Rattle.pair_log.specs.Mounted.{AreMounting, IsBeginning, IsBegun, IsMounting, begun, begun_read, first_record, or_first}
+use Rattle.pair_log.specs.PlainPair as pair
+use Rattle.pair_log.specs.PlainPair.{PlainPair, first_disk, second_disk}
+use Rattle.pair_log.specs.Sides.{first_of, second_of}
+use Rattle.shard_disks.specs.Images.{MayLeaveAll, WithinAll, faults_of, seen_of, tell_all, tells_of}
+use Rattle.shard_disks.specs.Lists.{EachHas, Pairwise}
+use Rattle.shard_disks.specs.Mounting.{IsLogMounted, MountsPair, closed}
+use Rattle.shard_disks.specs.Outline.{payloads_of}
+use Rattle.shard_disks.specs.PlainDisks.{disk_of, outline_of}
+use Rattle.shard_disks.specs.Stands.{IsCounted, IsDisks, RestsNow}
+use Rattle.shard_disks.proofs.ImageLemmas.{both_true, lists}
+
+-- ---- lists
+
+pub pairs_with : {A B : Type 0} (R : A → B → Type 0) (P : A → Type 0) (xs : List A) (ys : List B) → Pairwise R xs ys → EachHas P xs → Pairwise (λ x y. R x y × P x) xs ys
+pairs_with R P [] [] p h = tt
+pairs_with R P [] (y ∷ ys) p h = absurd p
+pairs_with R P (x ∷ xs) [] p h = absurd p
+pairs_with R P (x ∷ xs) (y ∷ ys) p h = ((p.0, h.0), pairs_with R P xs ys p.1 h.1)
+
+pub pairs_each : {A B : Type 0} (R : A → B → Type 0) (P : B → Type 0) → ((x : A) (y : B) → R x y → P y) → (xs : List A) (ys : List B) → Pairwise R xs ys → EachHas P ys
+pairs_each R P has [] [] p = tt
+pairs_each R P has [] (y ∷ ys) p = absurd p
+pairs_each R P has (x ∷ xs) [] p = absurd p
+pairs_each R P has (x ∷ xs) (y ∷ ys) p = (has x y p.0, pairs_each R P has xs ys p.1)
+
+pub pairs_length : {A B : Type 0} (R : A → B → Type 0) (xs : List A) (ys : List B) → Pairwise R xs ys → length ys ≡ length xs
+pairs_length R [] [] p = refl
+pairs_length R [] (y ∷ ys) p = absurd p
+pairs_length R (x ∷ xs) [] p = absurd p
+pairs_length R (x ∷ xs) (y ∷ ys) p = ap suc (pairs_length R xs ys p.1)
+
+-- a function of what the one has is a function of the other
+pub pairs_lists : {A B C E : Type 0} (h : B → C) (v : C → E) (u : A → E) (R : A → B → Type 0) → ((x : A) (y : B) → R x y → v (h y) ≡ u x) → (xs : List A) (ys : List B) → Pairwise R xs ys → map v (map h ys) ≡ map u xs
+pairs_lists h v u R same [] [] p = refl
+pairs_lists h v u R same [] (y ∷ ys) p = absurd p
+pairs_lists h v u R same (x ∷ xs) [] p = absurd p
+pairs_lists h v u R same (x ∷ xs) (y ∷ ys) p = ap (λ e. e ∷ map v (map h ys)) (same x y p.0) ∙ ap (λ l. u x ∷ l) (pairs_lists h v u R same xs ys p.1)
+
+pub map_of_map : {A B C : Type 0} (g : B → C) (f : A → B) (xs : List A) → map (λ x. g (f x)) xs ≡ map g (map f xs)
+map_of_map g f [] = refl
+map_of_map g f (x ∷ xs) = ap (λ l. g (f x) ∷ l) (map_of_map g f xs)
+
+-- ---- which disks tell
+
+module _ {D : Type 0} (state : D → DiskState) where
+  pub told_each : (disks : List D) → IsTrue (tell_all state disks) → EachHas (λ disk. IsTrue (state disk).tells) disks
+  told_each [] t = tt
+  told_each (disk ∷ disks) t =
+      let both = both_true (state disk).tells (tell_all state disks) t in
+      (both.0, told_each disks both.1)
+
+  pub told_three : (first second : D) (rest : List D) → IsTrue (tell_all state (first ∷ (second ∷ rest)))
+      → IsTrue (state first).tells × IsTrue (state second).tells × EachHas (λ disk. IsTrue (state disk).tells) rest
+  told_three first second rest t =
+      let all = told_each (first ∷ (second ∷ rest)) t in
+      (all.0, all.1.0, all.1.1)
+
+  pub told_turned : (side : Side) (a b : D) → IsTrue (state a).tells → IsTrue (state b).tells → IsTrue (state (first_of side a b)).tells × IsTrue (state (second_of side a b)).tells
+  told_turned First a b first second = (first, second)
+  told_turned Second a b first second = (second, first)
+
+-- ---- the records can be counted
+
+and_front_few : (front : Option Front) (later : List (List ℕ)) (n : ℕ) → length later ≤ n → length (and_front front later) ≤ suc n
+and_front_few None later n h = omega arith
+and_front_few (Some front) later n h = omega (arith, h)
+
+few_within : (n : ℕ) (bytes : List ℕ) → length (records_within n bytes) ≤ n
+few_within zero bytes = omega arith
+few_within (suc n) bytes = and_front_few (front_record bytes) (records_within n (rest_of (front_record bytes))) n (few_within n (rest_of (front_record bytes)))
+
+few_active : (most : ℕ) (first second : List (List ℕ)) → length first ≤ most → length second ≤ most → length (active_records first second) ≤ most
+few_active most first second a b = by (second_counts first second)
+  where
+    by : (counts : Bool) → length (if counts then second else first) ≤ most
+    by true = b
+    by false = a
+
+counted_first : (snapshot : List ℕ) (list : List (List ℕ)) → length list ≤ 2 ^ 64 - 1 → IsCounted (or_first snapshot list)
+counted_first snapshot [] h = record { some = omega arith; few = omega arith }
+counted_first snapshot (x ∷ list) h = record { some = omega arith; few = h }
+
+pub counted_pair : (snapshot first second : List ℕ) → length first ≤ 2 ^ 64 - 1 → length second ≤ 2 ^ 64 - 1 → IsCounted (or_first snapshot (read_pair first second))
+counted_pair snapshot first second a b =
+    let few_first : length (records first) ≤ length first = few_within (length first) first in
+    let few_second : length (records second) ≤ length second = few_within (length second) second in
+    counted_first snapshot (read_pair first second) (few_active (2 ^ 64 - 1) (records first) (records second) (omega (arith, few_first, a)) (omega (arith, few_second, b)))
+
+-- ---- the manifest, while it is mounted
+
+-- once the first disk has its first record, the list that counts is the one of before or the one with it
+begun_or : (snapshot : List ℕ) (first second other : List (List ℕ))
+    → (active_records (begun snapshot first second) other ≡ active_records first other) ⊎ (active_records (begun snapshot first second) other ≡ or_first snapshot (active_records first second))
+begun_or snapshot [] [] [] = inr refl
+begun_or snapshot [] [] (y ∷ ys) = by (is_later (epoch_of (first_record snapshot)) (epoch_of y))
+  where
+    by : (b : Bool) → ((if b then y ∷ ys else first_record snapshot ∷ []) ≡ y ∷ ys) ⊎ ((if b then y ∷ ys else first_record snapshot ∷ []) ≡ first_record snapshot ∷ [])
+    by true = inl refl
+    by false = inr refl
+begun_or snapshot [] (z ∷ zs) other = inl refl
+begun_or snapshot (x ∷ xs) [] other = inl refl
+begun_or snapshot (x ∷ xs) (z ∷ zs) other = inl refl
+
+-- two images read as two of the start, or as these with the first snapshot
+pub record PairBefore (first second : DiskState) (snapshot : List ℕ) (list : List (List ℕ)) : Type 0 where
+  pub first_before : List ℕ
+  pub second_before : List ℕ
+  pub first_left : first.may_leave first_before
+  pub second_left : second.may_leave second_before
+  pub reads : (list ≡ read_pair first_before second_before) ⊎ (list ≡ or_first snapshot (read_pair first_before second_before))
+
+pub pair_before : (first second : DiskState) (snapshot : List ℕ) → first.may_leave first.seen → second.may_leave second.seen → (a b : List ℕ) → AreMounting first second snapshot (a, b)
+    → PairBefore first second snapshot (read_pair a b)
+pair_before first second snapshot first_now second_now a b mounting = by mounting.0 mounting.1
+  where
+    by_begun : records a ≡ begun snapshot (records first.seen) (records second.seen) → IsMounting second.may_leave (records second.seen) b
+        → (active_records (begun snapshot (records first.seen) (records second.seen)) (records b) ≡ active_records (records first.seen) (records b))
+        ⊎ (active_records (begun snapshot (records first.seen) (records second.seen)) (records b) ≡ or_first snapshot (active_records (records first.seen) (records second.seen)))
+        → PairBefore first second snapshot (read_pair a b)
+    by_begun e (inl left) (inl same) = record { first_before = first.seen; second_before = b; first_left = first_now; second_left = left; reads = inl (ap (λ l. active_records l (records b)) e ∙ same) }
+    by_begun e (inr f) (inl same) = record {
+      first_before = first.seen;
+      second_before = second.seen;
+      first_left = first_now;
+      second_left = second_now;
+      reads = inl (ap (λ l. active_records l (records b)) e ∙ (same ∙ ap (active_records (records first.seen)) f));
+    }
+    by_begun e other (inr same) = record { first_before = first.seen; second_before = second.seen; first_left = first_now; second_left = second_now; reads = inr (ap (λ l. active_records l (records b)) e ∙ same) }
+
+    by : IsBeginning first.may_leave (records first.seen) (records second.seen) snapshot a → IsMounting second.may_leave (records second.seen) b → PairBefore first second snapshot (read_pair a b)
+    by (inl left) (inl right) = record { first_before = a; second_before = b; first_left = left; second_left = right; reads = inl refl }
+    by (inl left) (inr f) = record { first_before = a; second_before = second.seen; first_left = left; second_left = second_now; reads = inl (ap (active_records (records a)) f) }
+    by (inr (inl e)) (inl right) = record { first_before = first.seen; second_before = b; first_left = first_now; second_left = right; reads = inl (ap (λ l. active_records l (records b)) e) }
+    by (inr (inl e)) (inr f) = record {
+      first_before = first.seen;
+      second_before = second.seen;
+      first_left = first_now;
+      second_left = second_now;
+      reads = inl (ap (λ l. active_records l (records b)) e ∙ ap (active_records (records first.seen)) f);
+    }
+    by (inr (inr e)) other = by_begun e other (begun_or snapshot (records first.seen) (records second.seen) (records b))
+
+-- ---- the slots, while they are mounted
+
+pub record SlotsBefore {D : Type 0} (state : D → DiskState) (disks : List D) (lists_read : List (List (List ℕ))) : Type 0 where
+  pub before : List (List ℕ)
+  pub left : MayLeaveAll state disks before
+  pub reads : lists_read ≡ map records before
+
+pub slots_before : {D : Type 0} (state : D → DiskState) (limit : ℕ) (image_now : (disk : D) → IsTrue (state disk).tells → (state disk).may_leave (state disk).seen)
+    → (disks : List D) (logs : List (PlainLog D)) (images : List (List ℕ)) → Pairwise (λ disk log. IsLogMounted state limit disk log × IsTrue (state disk).tells) disks logs
+    → WithinAll state disks (map disk_of logs) images → SlotsBefore state disks (map records images)
+slots_before state limit image_now [] [] [] p w = record { before = []; left = tt; reads = refl }
+slots_before state limit image_now [] [] (x ∷ images) p w = absurd w
+slots_before state limit image_now [] (log ∷ logs) images p w = absurd p
+slots_before state limit image_now (disk ∷ disks) [] images p w = absurd p
+slots_before state limit image_now (disk ∷ disks) (log ∷ logs) [] p w = absurd w
+slots_before {D = D} state limit image_now (disk ∷ disks) (log ∷ logs) (x ∷ images) p w =
+    by ((p.0.0.mounting.moments p.0.1).each x w.0) (slots_before state limit image_now disks logs images p.1 w.1)
+  where
+    by : (state disk).may_leave x ⊎ (records x ≡ records (state disk).seen) → SlotsBefore state disks (map records images) → SlotsBefore state (disk ∷ disks) (records x ∷ map records images)
+    by (inl left) s = record { before = x ∷ s.before; left = (left, s.left); reads = ap (λ l. records x ∷ l) s.reads }
+    by (inr same) s = record { before = (state disk).seen ∷ s.before; left = (image_now disk p.0.1, s.left); reads = ap (λ v. v ∷ map records images) same ∙ ap (λ l. records (state disk).seen ∷ l) s.reads }
+
+-- ---- what the slots hold then
+
+module _ {D : Type 0} (state : D → DiskState) (limit : ℕ) (disks : List D) (logs : List (PlainLog D)) (mounted : Pairwise (IsLogMounted state limit) disks logs) where
+  pub all_tell : tells_of state (map disk_of logs) ≡ tells_of state disks
+  all_tell = pairs_lists disk_of (λ d. (state d).tells) (λ d. (state d).tells) (IsLogMounted state limit) (λ d log m. m.mounting.tells) disks logs mounted
+
+  pub all_arms : map (λ d. (state d).arms) (map disk_of logs) ≡ map (λ d. (state d).arms) disks
+  all_arms = pairs_lists disk_of (λ d. (state d).arms) (λ d. (state d).arms) (IsLogMounted state limit) (λ d log m. m.mounting.arms) disks logs mounted
+
+  pub all_faults : faults_of state (map disk_of logs) ≡ faults_of state disks
+  all_faults = pairs_lists disk_of (λ d. (state d).faults) (λ d. (state d).faults) (IsLogMounted state limit) (λ d log m. m.faults) disks logs mounted
+
+  pub all_rest : EachHas RestsNow logs
+  all_rest = pairs_each (IsLogMounted state limit) RestsNow (λ d log m. m.rests) disks logs mounted
+
+  pub all_have : EachHas (ImagesHave state) logs
+  all_have = pairs_each (IsLogMounted state limit) (ImagesHave state) (λ d log m told. subst (λ s. AllHave s log.payloads (state log.disk).may_leave) (sym m.rests) (m.images (sym m.mounting.tells ∙ told))) disks logs mounted
+
+  told_pairs : EachHas (λ d. IsTrue (state d).tells) disks → Pairwise (λ d log. IsLogMounted state limit d log × IsTrue (state d).tells) disks logs
+  told_pairs told = pairs_with (IsLogMounted state limit) (λ d. IsTrue (state d).tells) disks logs mounted told
+
+  pub all_lists : EachHas (λ d. IsTrue (state d).tells) disks → lists logs ≡ map records (seen_of state disks)
+  all_lists told =
+      pairs_lists outline_of payloads_of (λ d. records (state d).seen) (λ d log. IsLogMounted state limit d log × IsTrue (state d).tells) (λ d log m. m.0.list m.1) disks logs (told_pairs told)
+      ∙ map_of_map records (λ d. (state d).seen) disks
+
+  pub all_bytes : EachHas (λ d. IsTrue (state d).tells) disks → seen_of state (map disk_of logs) ≡ map closed (seen_of state disks)
+  all_bytes told =
+      pairs_lists disk_of (λ d. (state d).seen) (λ d. closed (state d).seen) (λ d log. IsLogMounted state limit d log × IsTrue (state d).tells)
+      (λ d log m. m.0.bytes m.1 ∙ ap (λ n. with_gate n 0 (state d).seen) (m.0.end m.1 ∙ ap end_of (m.0.list m.1))) disks logs (told_pairs told)
+      ∙ map_of_map closed (λ d. (state d).seen) disks
+
+  pub all_ends : EachHas (λ d. IsTrue (state d).tells) disks → EachHas (λ (log : PlainLog D). log.end ≡ end_of log.payloads) logs
+  all_ends told = pairs_each (λ d log. IsLogMounted state limit d log × IsTrue (state d).tells) (λ (log : PlainLog D). log.end ≡ end_of log.payloads) (λ d log m. m.0.end m.1) disks logs (told_pairs told)
+
+  pub all_limits : EachHas (λ (log : PlainLog D). log.limit ≡ limit) logs
+  all_limits = pairs_each (IsLogMounted state limit) (λ (log : PlainLog D). log.limit ≡ limit) (λ d log m. m.limit_kept) disks logs mounted
+
+  pub all_before : ((disk : D) → IsTrue (state disk).tells → (state disk).may_leave (state disk).seen) → EachHas (λ d. IsTrue (state d).tells) disks
+      → (images : List (List ℕ)) → WithinAll state disks (map disk_of logs) images → SlotsBefore state disks (map records images)
+  all_before image_now told images w = slots_before state limit image_now disks logs images (told_pairs told) w

@@ -1,0 +1,196 @@
+-- A mount is refused, and all disks are handed back.
+use Rattle.std.proofs.Common.{◌≡◌, ◌⊎◌, inl, inr, ℕ, zero, suc, ◌+◌, ◌<◌, ◌≤◌, IsTrue, List, [], ◌∷◌, ◌++◌, length, map, take, drop, Vec, refl, sym, ap, subst, ◌∙◌, arith, length-append}
+use Rattle.std.proofs.lemmas.List.{length-map}
+use Rattle.std.specs.declared.alloc.Global.{Global}
+use Rattle.std.specs.Int.{w32, to_be_bytes}
+use Rattle.outside.specs.DiskModel.{DiskState, Torn, written_at}
+use Rattle.outside.specs.Torn.{torn_same, torn_written}
+use Rattle.gated_log.specs.Blame.{IsBlamedFor}
+use Rattle.gated_log.specs.Calls.{with_record}
+use Rattle.gated_log.specs.Closing.{IsGateTorn, WithGate, with_gate}
+use Rattle.gated_log.specs.PlainLog.{PlainLog, end_of}
+use Rattle.gated_log.specs.Records.{body_bytes, records}
+use Rattle.gated_log.specs.declared.refused.LogRefused.{LogRefused}
+use Rattle.gated_log.specs.declared.refused.LogRefused.TheVariants.{Fault, Full, Memory}
+use Rattle.pair_log.specs.declared.side.Side.{Side}
+use Rattle.pair_log.specs.declared.side.Side.TheVariants.{First, Second}
+use Rattle.pair_log.specs.Mounted.{IsBlamedOn, IsMountTorn, first_record, mounted_first}
+use Rattle.pair_log.specs.PlainPair.{PlainPair, first_disk, second_disk}
+use Rattle.pair_log.specs.Sides.{number_of}
+use Rattle.shard_disks.specs.Blame.{IsBlamedAt}
+use Rattle.shard_disks.specs.Images.{KeepsDisks, arms_of, faults_of, seen_of, tell_all, tells_of}
+use Rattle.shard_disks.specs.Lists.{EachHas, Pairwise}
+use Rattle.shard_disks.specs.Mounting.{AreMountTorn, IsLogMounted, IsLogRefused, IsStopped, MountsPair, RefusesDisks, RefusesPair}
+use Rattle.shard_disks.specs.PlainDisks.{disk_of, disks_in}
+use Rattle.shard_disks.proofs.ListLemmas.{pairs_same}
+use Rattle.shard_disks.proofs.MountLemmas.{pairs_length, told_three}
+
+-- ---- bytes
+
+same_torn : (snapshot : List ℕ) (first second : List (List ℕ)) (bytes : List ℕ) → IsMountTorn snapshot first second bytes bytes
+same_torn snapshot [] [] bytes = torn_same 0 (6 + length (first_record snapshot)) bytes
+same_torn snapshot [] (y ∷ ys) bytes = inl refl
+same_torn snapshot (x ∷ xs) [] bytes = inl refl
+same_torn snapshot (x ∷ xs) (y ∷ ys) bytes = inl refl
+
+record_torn : (payload bytes : List ℕ) → Torn 0 (6 + length payload) bytes (with_record 0 payload bytes)
+record_torn payload bytes =
+    let long : length (1 ∷ body_bytes payload) ≡ 6 + length payload =
+    (let body : length (body_bytes payload) ≡ 4 + length (payload ++ 0 ∷ []) = length-append (to_be_bytes w32 (length payload)) (payload ++ 0 ∷ []) in
+    omega (arith, body, length-append payload (0 ∷ []))) in
+    subst (Torn 0 (6 + length payload) bytes) (ap (λ n. take 0 bytes ++ (1 ∷ body_bytes payload) ++ drop (0 + n) bytes) long)
+    (torn_written 0 (6 + length payload) (1 ∷ body_bytes payload) bytes (omega (arith, long)) (omega arith))
+
+mounted_torn : (snapshot : List ℕ) (first second : List (List ℕ)) (old new : List ℕ) → new ≡ mounted_first snapshot first second old → IsMountTorn snapshot first second old new
+mounted_torn snapshot [] [] old new e = subst (Torn 0 (6 + length (first_record snapshot)) old) (sym e) (record_torn (first_record snapshot) old)
+mounted_torn snapshot [] (y ∷ ys) old new e = inr (0, e)
+mounted_torn snapshot (x ∷ xs) [] old new e = inr (0, e)
+mounted_torn snapshot (x ∷ xs) (y ∷ ys) old new e = inr (0, e)
+
+abbrev pub GateTorn : List ℕ → List ℕ → Type 0
+GateTorn old new = IsGateTorn (end_of (records old)) old new
+
+rest_torn : (bytes : List (List ℕ)) → Pairwise GateTorn bytes bytes
+rest_torn bytes = pairs_same GateTorn (λ b. inl refl) bytes
+
+-- ---- nothing was mounted
+
+pub none_mounted : {D : Type 0} (state : D → DiskState) (snapshot : List ℕ) (disks : Vec D Global) → length disks.items ≡ 10 → RefusesDisks state disks.items snapshot (disks, 0, Memory)
+none_mounted state snapshot disks ten = record {
+  ten = ten;
+  place = omega arith;
+  never_full = λ e. cc;
+  cause = blamed disks.items ten;
+  kept = record { tells = refl; arms = refl };
+  bytes = λ told. torn disks.items ten;
+} where
+  blamed : (ds : List _) → length ds ≡ 10 → IsBlamedAt 0 Memory (faults_of state ds) (faults_of state ds)
+  blamed [] e = absurd (omega (arith, e))
+  blamed (d ∷ ds) e = (record { later = omega arith; fault = λ f. cc; kept = λ f. refl }, refl)
+
+  torn : (ds : List _) → length ds ≡ 10 → AreMountTorn snapshot (seen_of state ds) (seen_of state ds)
+  torn [] e = absurd (omega (arith, e))
+  torn (a ∷ []) e = absurd (omega (arith, e))
+  torn (a ∷ (b ∷ ds)) e = (same_torn snapshot (records (state a).seen) (records (state b).seen) (state a).seen, inl refl, rest_torn (seen_of state ds))
+
+-- ---- the manifest was refused
+
+pair_blamed : (side : Side) (why : LogRefused) (first second first_now second_now : ℕ) (rest : List ℕ) → IsBlamedOn side why first second first_now second_now
+    → IsBlamedAt (number_of side) why (first ∷ (second ∷ rest)) (first_now ∷ (second_now ∷ rest))
+pair_blamed First why first second first_now second_now rest b = (b.0, ap (λ n. n ∷ rest) b.1)
+pair_blamed Second why first second first_now second_now rest b = (b.0, (b.1, refl))
+
+side_below : (side : Side) → number_of side < 10
+side_below First = omega arith
+side_below Second = omega arith
+
+both_kept : {D E : Type 0} (f : D → E) (a b c d : D) (rest : List D) → f c ≡ f a → f d ≡ f b → map f (c ∷ (d ∷ rest)) ≡ map f (a ∷ (b ∷ rest))
+both_kept f a b c d rest e g = ap (λ x. x ∷ (f d ∷ map f rest)) e ∙ ap (λ x. f a ∷ (x ∷ map f rest)) g
+
+pub pair_refused : {D : Type 0} (state : D → DiskState) (snapshot : List ℕ) (disks : List D) (now : Vec D Global) (place : ℕ) (why : LogRefused) → length disks ≡ 10
+    → RefusesPair state disks now.items snapshot place why → RefusesDisks state disks snapshot (now, place, why)
+pair_refused {D = D} state snapshot disks now place why ten r =
+    let two : length disks ≡ suc (suc (length r.rest)) = ap length r.were in
+    let two_now : length now.items ≡ suc (suc (length r.rest)) = ap length r.are in
+    record {
+      ten = omega (arith, ten, two, two_now);
+      place = subst (λ n. n < 10) (sym r.place_is) (side_below r.side);
+      never_full = r.never_full;
+      cause = subst (λ ds. IsBlamedAt place why (faults_of state ds) (faults_of state now.items)) (sym r.were)
+          (subst (λ ds. IsBlamedAt place why (faults_of state (r.first ∷ (r.second ∷ r.rest))) (faults_of state ds)) (sym r.are)
+          (subst (λ n. IsBlamedAt n why (faults_of state (r.first ∷ (r.second ∷ r.rest))) (faults_of state (r.first_now ∷ (r.second_now ∷ r.rest)))) (sym r.place_is)
+          (pair_blamed r.side why (state r.first).faults (state r.second).faults (state r.first_now).faults (state r.second_now).faults (faults_of state r.rest) r.blame)));
+      kept = record {
+        tells = ap (tells_of state) r.are ∙ (both_kept (λ d. (state d).tells) r.first r.second r.first_now r.second_now r.rest r.first_tells r.second_tells ∙ ap (tells_of state) (sym r.were));
+        arms = ap (arms_of state) r.are ∙ (both_kept (λ d. (state d).arms) r.first r.second r.first_now r.second_now r.rest r.first_arms r.second_arms ∙ ap (arms_of state) (sym r.were));
+      };
+      bytes = subst (λ ds. IsTrue (tell_all state ds) → AreMountTorn snapshot (seen_of state ds) (seen_of state now.items)) (sym r.were)
+          (λ told. subst (λ ds. AreMountTorn snapshot (seen_of state (r.first ∷ (r.second ∷ r.rest))) (seen_of state ds)) (sym r.are) (torn told));
+    }
+  where
+    torn : IsTrue (tell_all state (r.first ∷ (r.second ∷ r.rest))) → AreMountTorn snapshot (seen_of state (r.first ∷ (r.second ∷ r.rest))) (seen_of state (r.first_now ∷ (r.second_now ∷ r.rest)))
+    torn told =
+        let t = told_three state r.first r.second r.rest told in
+        (r.first_torn t.0 t.1, r.second_torn t.1, rest_torn (seen_of state r.rest))
+
+-- ---- a slot was refused
+
+module _ {D : Type 0} (state : D → DiskState) (limit : ℕ) (disk now : D) (rest : List D) (why : LogRefused) (refused : IsLogRefused state disk (now, why)) where
+  kept_behind : {E : Type 0} (f : D → E) → f now ≡ f disk → ((d : D) (log : PlainLog D) → IsLogMounted state limit d log → f log.disk ≡ f d) → (before : List D) (logs : List (PlainLog D))
+      → Pairwise (IsLogMounted state limit) before logs → map f (map disk_of logs ++ now ∷ rest) ≡ map f (before ++ disk ∷ rest)
+  kept_behind f here same [] [] p = ap (λ x. x ∷ map f rest) here
+  kept_behind f here same [] (log ∷ logs) p = absurd p
+  kept_behind f here same (d ∷ before) [] p = absurd p
+  kept_behind f here same (d ∷ before) (log ∷ logs) p = ap (λ x. x ∷ map f (map disk_of logs ++ now ∷ rest)) (same d log p.0) ∙ ap (λ l. f d ∷ l) (kept_behind f here same before logs p.1)
+
+  blamed_behind : (before : List D) (logs : List (PlainLog D)) → Pairwise (IsLogMounted state limit) before logs
+      → IsBlamedAt (length logs) why (faults_of state (before ++ disk ∷ rest)) (faults_of state (map disk_of logs ++ now ∷ rest))
+  blamed_behind [] [] p = (refused.cause, refl)
+  blamed_behind [] (log ∷ logs) p = absurd p
+  blamed_behind (d ∷ before) [] p = absurd p
+  blamed_behind (d ∷ before) (log ∷ logs) p = (p.0.faults, blamed_behind before logs p.1)
+
+  torn_behind : (before : List D) (logs : List (PlainLog D)) → Pairwise (IsLogMounted state limit) before logs → EachHas (λ d. IsTrue (state d).tells) (before ++ disk ∷ rest)
+      → Pairwise GateTorn (seen_of state (before ++ disk ∷ rest)) (seen_of state (map disk_of logs ++ now ∷ rest))
+  torn_behind [] [] p told = (refused.mounting.bytes told.0, rest_torn (seen_of state rest))
+  torn_behind [] (log ∷ logs) p told = absurd p
+  torn_behind (d ∷ before) [] p told = absurd p
+  torn_behind (d ∷ before) (log ∷ logs) p told = (p.0.mounting.bytes told.0, torn_behind before logs p.1 told.1)
+
+pub slot_refused : {D : Type 0} (state : D → DiskState) (snapshot : List ℕ) (disks rest later : List D) (manifest_limit limit : ℕ) (m : PlainPair D) (logs : List (PlainLog D)) (now : D) (why : LogRefused) (back : Vec D Global)
+    → length disks ≡ 10 → MountsPair state disks rest manifest_limit snapshot m → IsStopped state limit rest later logs (now, why) → back.items ≡ disks_in m logs ++ now ∷ later
+    → RefusesDisks state disks snapshot (back, 2 + length logs, why)
+slot_refused {D = D} state snapshot disks rest later manifest_limit limit m logs now why back ten p s back_is =
+    subst (λ ds. RefusesDisks state ds snapshot (back, 2 + length logs, why)) (sym were) (record {
+      ten = omega (arith, ten, long_were, long_back, many);
+      place = omega (arith, ten, long_were, many);
+      never_full = s.why.never_full;
+      cause = subst (λ ds. IsBlamedAt (2 + length logs) why (faults_of state (p.first ∷ (p.second ∷ (s.before ++ s.disk ∷ later)))) (faults_of state ds)) (sym back_is)
+          (subst (λ n. IsBlamedAt n why (faults_of state (p.first ∷ (p.second ∷ (s.before ++ s.disk ∷ later)))) (faults_of state (disks_in m logs ++ now ∷ later))) two_more
+          (p.first_faults, (p.second_faults, blamed_behind state limit s.disk now later why s.why s.before logs s.mounted)));
+      kept = record {
+        tells = ap (tells_of state) back_is ∙ kept_all (λ d. (state d).tells) p.first_tells p.second_tells s.why.mounting.tells (λ d log c. c.mounting.tells);
+        arms = ap (arms_of state) back_is ∙ kept_all (λ d. (state d).arms) p.first_arms p.second_arms s.why.mounting.arms (λ d log c. c.mounting.arms);
+      };
+      bytes = λ told. subst (λ ds. AreMountTorn snapshot (seen_of state (p.first ∷ (p.second ∷ (s.before ++ s.disk ∷ later)))) (seen_of state ds)) (sym back_is) (torn told);
+    })
+  where
+    were : disks ≡ p.first ∷ (p.second ∷ (s.before ++ s.disk ∷ later))
+    were = p.were ∙ ap (λ l. p.first ∷ (p.second ∷ l)) s.were
+
+    many : length logs ≡ length s.before
+    many = pairs_length (IsLogMounted state limit) s.before logs s.mounted
+
+    long_were : length disks ≡ suc (suc (length s.before + suc (length later)))
+    long_were = ap length were ∙ ap (λ n. suc (suc n)) (length-append s.before (s.disk ∷ later))
+
+    long_back : length back.items ≡ suc (suc (length logs + suc (length later)))
+    long_back = ap length back_is ∙ ap (λ n. suc (suc n)) (length-append (map disk_of logs) (now ∷ later) ∙ ap (λ n. n + suc (length later)) (length-map logs disk_of))
+
+    two_more : suc (suc (length logs)) ≡ 2 + length logs
+    two_more = omega arith
+
+    kept_all : {E : Type 0} (f : D → E) → f (first_disk m) ≡ f p.first → f (second_disk m) ≡ f p.second → f now ≡ f s.disk → ((d : D) (log : PlainLog D) → IsLogMounted state limit d log → f log.disk ≡ f d)
+        → map f (disks_in m logs ++ now ∷ later) ≡ map f (p.first ∷ (p.second ∷ (s.before ++ s.disk ∷ later)))
+    kept_all f first second here same =
+        ap (λ x. x ∷ (f (second_disk m) ∷ map f (map disk_of logs ++ now ∷ later))) first
+        ∙ (ap (λ x. f p.first ∷ (x ∷ map f (map disk_of logs ++ now ∷ later))) second
+        ∙ ap (λ l. f p.first ∷ (f p.second ∷ l)) (kept_behind state limit s.disk now later why s.why f here same s.before logs s.mounted))
+
+    torn : IsTrue (tell_all state (p.first ∷ (p.second ∷ (s.before ++ s.disk ∷ later))))
+        → AreMountTorn snapshot (seen_of state (p.first ∷ (p.second ∷ (s.before ++ s.disk ∷ later)))) (seen_of state (disks_in m logs ++ now ∷ later))
+    torn told =
+        let t = told_three state p.first p.second (s.before ++ s.disk ∷ later) told in (
+          mounted_torn snapshot (records (state p.first).seen) (records (state p.second).seen) (state p.first).seen (state (first_disk m)).seen (p.first_bytes t.0 t.1),
+          inr (0, p.second_bytes t.1),
+          torn_behind state limit s.disk now later why s.why s.before logs s.mounted t.2,
+        )
+
+-- how many logs there are then
+pub logs_then : {D : Type 0} (state : D → DiskState) (snapshot : List ℕ) (disks rest later : List D) (manifest_limit limit : ℕ) (m : PlainPair D) (logs : List (PlainLog D)) (refused : D × LogRefused)
+    → length disks ≡ 10 → MountsPair state disks rest manifest_limit snapshot m → IsStopped state limit rest later logs refused → length logs + (1 + length later) ≡ 8
+logs_then state snapshot disks rest later manifest_limit limit m logs refused ten p s =
+    let many : length logs ≡ length s.before = pairs_length (IsLogMounted state limit) s.before logs s.mounted in
+    let two : length disks ≡ suc (suc (length rest)) = ap length p.were in
+    let all : length rest ≡ length s.before + suc (length later) = ap length s.were ∙ length-append s.before (s.disk ∷ later) in
+    omega (arith, many, two, all, ten)

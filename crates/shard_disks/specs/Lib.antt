@@ -1,0 +1,9 @@
+pub mod Lists
+pub mod Blame
+pub mod Outline
+pub mod PlainDisks
+pub mod Images
+pub mod Stands
+pub mod SlotCalls
+pub mod Calls
+pub mod Mounting

@@ -1,0 +1,10 @@
+pub mod Fold
+pub mod Giving
+pub mod Potential
+pub mod PotentialLaws
+pub mod OpeningLaws
+pub mod ManifestLaws
+pub mod FoldLaws
+pub mod DistinctLaws
+pub mod OrderLaws
+pub mod Examples
