@@ -1,4 +1,4 @@
--- Which operations are kept depends on what is awaited alone.
+-- Which operations are kept, by what is awaited alone, and how they are written, by the next offset alone.
 use Rattle.std.specs.Prelude.{ℕ, ◌+◌, Bool, true, false, ◌&&◌, not, List, [], ◌∷◌, ◌++◌, filter}
 use Rattle.std.specs.List.{list_any}
 use Rattle.shard_terms.specs.ShardList.{Awaited}

@@ -4,7 +4,7 @@ use Rattle.std.specs.List.{sum_by}
 use Rattle.std.specs.Cmp.Derive.{both_true}
 use Rattle.std.proofs.lemmas.Bool.{and_parts, ltb-true}
 use Rattle.std.proofs.lemmas.Bool.Decides.{nat_tests}
-use Rattle.std.proofs.Math.Bool.{and-true, and_assoc}
+use Rattle.std.proofs.Math.Bool.{and-true}
 use Rattle.std.proofs.lemmas.List.{length-append}
 use Rattle.std.proofs.lemmas.List.Sums.{sum_by-append, sum_by-cons}
 use Rattle.topic_terms.specs.Profile.{whole}
@@ -82,24 +82,6 @@ one_at_most (Store m) = omega arith
 one_at_most (Release publisher incarnation id) = omega arith
 one_at_most (Forget publisher incarnation) = omega arith
 
--- by what is left of messages, bytes and offsets
-pub left_means : (held most count bytes size next left_messages left left_offsets : ℕ) → 0 < count → left_messages ≡ most - held →
-    left + bytes ≡ whole.generation_bytes → left_offsets + next ≡ 2 ^ 64 - 1 →
-    (nat_le count left_messages && nat_le size left && nat_le count left_offsets)
-    ≡ (nat_le (held + count) most && (nat_le (bytes + size) whole.generation_bytes && nat_lt (next + count) (2 ^ 64)))
-left_means held most count bytes size next left_messages left left_offsets some messages all offsets =
-    and_assoc (nat_le count left_messages) (nat_le size left) (nat_le count left_offsets)
-    ∙ (λ i. first i && (second i && third i))
-  where
-    first : nat_le count left_messages ≡ nat_le (held + count) most
-    first = grind (arith, nat_tests)
-
-    second : nat_le size left ≡ nat_le (bytes + size) whole.generation_bytes
-    second = grind (arith, nat_tests)
-
-    third : nat_le count left_offsets ≡ nat_lt (next + count) (2 ^ 64)
-    third = grind (arith, nat_tests)
-
 -- a sum that stops at the greatest number fits where the sum does
 saturated_fits : (held size : ℕ) → nat_le (held + min size (2 ^ 64 - 1)) whole.generation_bytes ≡ nat_le (held + size) whole.generation_bytes
 saturated_fits held size = grind (arith, nat_tests)
@@ -115,11 +97,6 @@ lacks_by list ops count bytes takes counted some size is =
     ∙ ap (λ n. not (takes_more list n (sum_by store_size (messages_of ops)))) counted
     ∙ ap (λ b. b && not (takes_more list (length (messages_of ops)) (sum_by store_size (messages_of ops)))) (sym (lt-ltb 0 (length (messages_of ops)) (omega arith)))
     ∙ sym (room_is list (plain_ops ops))
-
--- operations without messages never lack room
-pub none_lack : (list : ShardList) (ops : List Op) (count : ℕ) → count ≡ length (messages_of ops) → count ≡ 0 → false ≡ lacks_room list (plain_ops ops)
-none_lack list ops count counted none =
-    ap (λ n. nat_lt 0 n && not (takes_more list (length (messages_of ops)) (sum_by store_size (messages_of ops)))) (sym none ∙ counted) ∙ sym (room_is list (plain_ops ops))
 
 -- ---- a spelling
 

@@ -15,6 +15,7 @@ pub(crate) struct Kept<'a> {
     pub(crate) awaited: u128,
 }
 
+// `None` of `total_behind` leaves an operation out; the others are those that the next ones are decided behind.
 pub(crate) fn kept_of<'a>(
     alloc: Global,
     index: &Index,

@@ -21,7 +21,7 @@ pub fn a_plan_stands()
         planned list ops now ≡ Stores g → IsReady list ops now g }
 {}
 
-/// A law: where one generation is held, and may not be another, a list is full where the plan says so.
+/// A law: where a shard may hold one generation, it is full exactly where that one lacks room.
 pub fn full_of_one()
     ensures { (config : Config) (list : ShardList) (kept : List PlainOp) (now : ℕ) →
         length list.cuts ≡ 1 → IsList list →

@@ -22,8 +22,6 @@ mod outcome;
 mod placing;
 mod planning;
 mod room;
-#[cfg(test)]
-mod tests;
 
 pub use laws::{a_plan_stands, full_of_one, kept_at_any_moment, nothing_kept, what_may_be_asked};
 pub use outcome::{MOST_RECORD, Plan, Stored};

@@ -1,10 +1,9 @@
 // Operations as they are written, and as an index takes them. Payloads and properties are shared.
-ghost use Rattle.std.specs.Prelude.{◌≡◌, ◌<◌, ◌+◌, ◌^◌, None, length, map, IsTrue, IfOk};
+ghost use Rattle.std.specs.Prelude.{◌≡◌, ◌<◌, ◌+◌, map, IsTrue, IfOk};
 ghost use Rattle.shard_terms.specs.Storing.{placed};
 ghost use Rattle.record_codec.specs.Records.{offsets_of};
 ghost use Rattle.record_codec.specs.Spelling.{spelled_group};
-ghost use Rattle.record_codec.specs.HasSpelling.{group_has_spelling};
-ghost use Rattle.group_plan.specs.Plan.{fit_alone, fits_op_alone, index_op, written_at};
+ghost use Rattle.group_plan.specs.Plan.{fits_op_alone, index_op, written_at};
 ghost use Rattle.group_plan.specs.Keeping.{written_from};
 ghost use Rattle.group_plan.specs.RoomLaws.{CanBeWritten, written_group};
 
@@ -144,7 +143,7 @@ pub(crate) fn stored_from(
     now: u64,
 ) -> Result<Stored, AllocError>
     requires { CanBeWritten now first (map (λ o. o.now) kept.now) }
-    ensures record { IfOk result (λ stored. stored.record.items
+    ensures spelling { IfOk result (λ stored. stored.record.items
         ≡ spelled_group (written_group now first (map (λ o. o.now) kept.now))) }
     ensures ops { IfOk result (λ stored. stored.ops.items
         ≡ map index_op (written_from now first (map (λ o. o.now) kept.now))) }

@@ -1,4 +1,4 @@
-ghost use Rattle.std.specs.Prelude.{◌≡◌, ◌≤◌, length, IsTrue, IfOk};
+ghost use Rattle.std.specs.Prelude.{◌≤◌, length, IsTrue, IfOk};
 ghost use Rattle.shard_index.specs.KeptIndex.{list_of};
 ghost use Rattle.group_plan.specs.Plan.{fit_alone};
 ghost use Rattle.group_plan.specs.Planning.{IsPlan, HasSpelling};

@@ -61,6 +61,7 @@ fn messages_left(index: &Index) -> u64
     u64::from(newest.messages).saturating_sub(next - first)
 }
 
+// How many bytes of its limit are left.
 fn bytes_left(index: &Index) -> u64
     ensures { result + newest_bytes (list_of index.now) ≡ GENERATION_BYTES }
 {
@@ -68,6 +69,7 @@ fn bytes_left(index: &Index) -> u64
     (GENERATION_BYTES - index.newest_bytes()) as u64
 }
 
+// How many offsets there are that may still be given.
 fn offsets_left(index: &Index) -> u64
     ensures { result + next_of (list_of index.now) ≡ 2 ^ 64 - 1 }
 {

@@ -52,7 +52,7 @@ returns-clause-exact c =
     let room = room_told list ops c.in_ok-kept.kept.ops c.in_ok-kept.ensures.ops c.deref.result.now c.deref.ensures.value c.lacks_room.result false c.lacks_room.ensures c.if-lacks_room.false in
     let lent = are_lent list ops c.in_ok-kept.kept.ops c.in_ok-kept.ensures.ops c.deref-2.result.now c.deref-2.ensures.value in
     let stores = plans_stores list ops c.args.now some room (omega (arith, c.in_ok-kept.ensures.awaited, c.if-kept-gt-MOST_AWAITED.false)) in
-    is_stored list ops c.args.now c.in_ok-stored.stored c.next_offset.result (told c.deref-2.result.now) c.next_offset.ensures lent stores c.in_ok-stored.ensures.record c.in_ok-stored.ensures.ops
+    is_stored list ops c.args.now c.in_ok-stored.stored c.next_offset.result (told c.deref-2.result.now) c.next_offset.ensures lent stores c.in_ok-stored.ensures.spelling c.in_ok-stored.ensures.ops
 
 pub returns-clause-spelled : goal.returns-clause-spelled
 returns-clause-spelled c =
@@ -62,4 +62,4 @@ returns-clause-spelled c =
     let room = room_told list ops c.in_ok-kept.kept.ops c.in_ok-kept.ensures.ops c.deref.result.now c.deref.ensures.value c.lacks_room.result false c.lacks_room.ensures c.if-lacks_room.false in
     let can = chosen_can list ops c.args.now c.facts.ensures.end c.ranges.now.fits c.requires.few c.requires.fit some room in
     let lent = are_lent list ops c.in_ok-kept.kept.ops c.in_ok-kept.ensures.ops c.deref-2.result.now c.deref-2.ensures.value in
-    is_spelled list ops c.args.now c.in_ok-stored.stored c.next_offset.result (told c.deref-2.result.now) c.next_offset.ensures lent can room c.in_ok-stored.ensures.record
+    is_spelled list ops c.args.now c.in_ok-stored.stored c.next_offset.result (told c.deref-2.result.now) c.next_offset.ensures lent can room c.in_ok-stored.ensures.spelling
