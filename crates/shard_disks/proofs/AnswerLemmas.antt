@@ -1,5 +1,5 @@
 -- What a log answers.
-use Rattle.std.proofs.Common.{◌≡◌, Result, Ok, Err, OnOk, OnErr, IsErrOf, refl}
+use Rattle.std.proofs.Common.{Result, Ok, Err, OnOk, OnErr, IsErrOf, refl}
 use Rattle.gated_log.specs.declared.refused.LogRefused.{LogRefused}
 use Rattle.gated_log.specs.declared.refused.LogRefused.TheVariants.{Fault, Full, Memory}
 

@@ -1,16 +1,15 @@
 -- A failure is asked for.
-use Rattle.std.proofs.Common.{◌≡◌, ◌⊎◌, ℕ, zero, suc, ◌<◌, ◌≤◌, ◌-◌, IsTrue, Result, Ok, Err, OnOk, OnErr, List, [], ◌∷◌, ◌++◌, length, map, None, Some, Option, refl, sym, ap, subst, ◌∙◌, arith}
-use Rattle.outside.specs.Along.{keeps_step, left_between}
+use Rattle.std.proofs.Common.{◌≡◌, ℕ, zero, suc, ◌≤◌, ◌-◌, Result, OnOk, OnErr, List, [], ◌∷◌, ◌++◌, map, None, Some, Option, refl, sym, ap, subst, ◌∙◌, arith}
+use Rattle.outside.specs.Along.{keeps_step}
 use Rattle.outside.specs.DiskModel.{DiskState, IsArmed}
 use Rattle.outside.specs.Results.{on_ok_then}
 use Rattle.gated_log.specs.Calls.{ImagesHave}
 use Rattle.gated_log.specs.PlainLog.{AllHave, PlainLog, is_in_doubt}
 use Rattle.pair_log.specs.PlainPair.{PlainPair, both_disks, first_disk, second_disk}
-use Rattle.shard_disks.specs.Calls.{Told}
-use Rattle.shard_disks.specs.Images.{EachMoment, MayLeaveAll, WithinAll, tell_all}
-use Rattle.shard_disks.specs.Lists.{EachHas, HasAt, Moved, Pairwise}
-use Rattle.shard_disks.specs.Outline.{IsEither, Reads, reads_after, reads_in, reads_of}
-use Rattle.shard_disks.specs.PlainDisks.{PlainDisks, all_disks, disk_of, disks_in, outline, outline_of}
+use Rattle.shard_disks.specs.Images.{EachMoment, MayLeaveAll, WithinAll}
+use Rattle.shard_disks.specs.Lists.{Moved, Pairwise}
+use Rattle.shard_disks.specs.Outline.{IsEither, reads_after, reads_in, reads_of}
+use Rattle.shard_disks.specs.PlainDisks.{PlainDisks, disk_of, disks_in, outline, outline_of}
 use Rattle.shard_disks.specs.SlotCalls.{ArmsLog}
 use Rattle.shard_disks.specs.Stands.{IsDisks, IsDoubted, LogsStand, RestsNow}
 use Rattle.shard_disks.proofs.AnswerLemmas.{on_err_then}

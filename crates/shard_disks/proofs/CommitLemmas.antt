@@ -1,22 +1,21 @@
 -- A record is committed to one slot.
-use Rattle.std.proofs.Common.{◌≡◌, ◌⊎◌, inl, inr, ℕ, suc, ◌<◌, ◌+◌, true, IsTrue, IsErrOf, Result, Ok, Err, OnOk, OnErr, List, [], ◌∷◌, ◌++◌, length, map, get_or, slice_set, slice_index_or, None, Some, Option, refl, sym, ap, subst, ◌∙◌, arith}
-use Rattle.std.proofs.lemmas.List.{append_assoc, set-get_or}
+use Rattle.std.proofs.Common.{◌≡◌, ℕ, suc, ◌+◌, IsTrue, Result, OnOk, OnErr, List, [], ◌∷◌, ◌++◌, length, map, get_or, slice_set, slice_index_or, None, Some, Option, sym, ap, subst, ◌∙◌, arith}
+use Rattle.std.proofs.lemmas.List.{set-get_or}
 use Rattle.outside.specs.Along.{keeps_step}
 use Rattle.outside.specs.DiskModel.{DiskState}
 use Rattle.outside.specs.Results.{on_err, on_ok_then}
 use Rattle.gated_log.specs.Blame as log
 use Rattle.gated_log.specs.Calls.{ImagesHave, with_record as with_record_at}
-use Rattle.gated_log.specs.PlainLog.{AtRest, InDoubt, PlainLog, is_in_doubt, with_doubted}
+use Rattle.gated_log.specs.PlainLog.{InDoubt, PlainLog, is_in_doubt, with_doubted}
 use Rattle.gated_log.specs.Records.{records}
 use Rattle.gated_log.specs.Stands.{IsBeforeOrAfter}
 use Rattle.gated_log.specs.declared.refused.LogRefused.{LogRefused}
-use Rattle.gated_log.specs.declared.refused.LogRefused.TheVariants.{Fault}
 use Rattle.pair_log.specs.PlainPair.{PlainPair, first_disk, second_disk}
-use Rattle.shard_disks.specs.Calls.{CommitsTo, HasCommitted, IsLeftInDoubt, Told}
-use Rattle.shard_disks.specs.Images.{EachMoment, WithinAll, seen_of, tell_all}
+use Rattle.shard_disks.specs.Calls.{CommitsTo}
+use Rattle.shard_disks.specs.Images.{WithinAll, seen_of, tell_all}
 use Rattle.shard_disks.specs.Lists.{EachHas, Moved}
-use Rattle.shard_disks.specs.Outline.{IsEither, Outline, Reads, SlotOutline, payloads_after, payloads_of, reads_in, slot_at, with_record}
-use Rattle.shard_disks.specs.PlainDisks.{PlainDisks, disk_of, disks_in, outline, outline_of}
+use Rattle.shard_disks.specs.Outline.{IsEither, Outline, Reads, SlotOutline, payloads_after, payloads_of, reads_in, slot_at}
+use Rattle.shard_disks.specs.PlainDisks.{PlainDisks, disks_in, outline_of}
 use Rattle.shard_disks.specs.SlotCalls.{CommitsLog}
 use Rattle.shard_disks.specs.Stands.{IsDisks, IsDoubted, LogsStand, RestsNow}
 use Rattle.shard_disks.proofs.AnswerLemmas.{on_err_then, on_err_with, on_ok_with}

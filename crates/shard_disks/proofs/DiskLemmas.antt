@@ -1,8 +1,7 @@
 -- The lists of all disks, where one of them moves.
-use Rattle.std.proofs.Common.{◌≡◌, ◌⊎◌, inl, inr, ℕ, zero, suc, ◌+◌, ◌≤◌, Bool, IsTrue, IsErrOf, Result, Ok, Err, OnOk, OnErr, List, [], ◌∷◌, length, map, get_or, slice_set, slice_index_or, None, Some, Option, refl, sym, ap, subst, ◌∙◌, arith}
+use Rattle.std.proofs.Common.{◌≡◌, inl, inr, ℕ, zero, suc, ◌≤◌, Bool, IsTrue, IsErrOf, Result, List, [], ◌∷◌, map, get_or, slice_set, slice_index_or, refl, sym, ap, ◌∙◌, arith}
 use Rattle.std.specs.List.{list_all}
 use Rattle.std.proofs.lemmas.List.Folds.{list_all-map}
-use Rattle.outside.specs.Cause.{Rose}
 use Rattle.outside.specs.DiskModel.{DiskState, WritesNone}
 use Rattle.gated_log.specs.Blame as log
 use Rattle.gated_log.specs.PlainLog.{PlainLog}
@@ -11,11 +10,11 @@ use Rattle.gated_log.specs.declared.refused.LogRefused.TheVariants.{Fault}
 use Rattle.pair_log.specs.PlainPair.{PlainPair, first_disk, second_disk}
 use Rattle.shard_disks.specs.Blame.{IsBlamed, SomeRose}
 use Rattle.shard_disks.specs.Calls.{WriteNone}
-use Rattle.shard_disks.specs.Images.{KeepsDisks, arms_of, faults_of, seen_of, tell_all, tells_of}
-use Rattle.shard_disks.specs.Lists.{EachHas, Moved, Pairwise}
+use Rattle.shard_disks.specs.Images.{KeepsDisks, faults_of, seen_of, tell_all, tells_of}
+use Rattle.shard_disks.specs.Lists.{Moved, Pairwise}
 use Rattle.shard_disks.specs.Outline.{SlotOutline, no_slot, payloads_of, slot_at}
 use Rattle.shard_disks.specs.PlainDisks.{disk_of, disks_in, outline_of}
-use Rattle.shard_disks.proofs.ListLemmas.{moved_at, moved_map, moved_mapped, moved_pairs, moved_same, pairs_same}
+use Rattle.shard_disks.proofs.ListLemmas.{moved_at, moved_map, moved_mapped, moved_pairs, moved_same}
 
 -- what a call keeps of one disk
 pub record KeepsDisk {D : Type 0} (state : D → DiskState) (old new : D) : Type 0 where

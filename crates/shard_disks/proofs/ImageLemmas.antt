@@ -1,9 +1,8 @@
 -- What a mount would read from images of all disks.
-use Rattle.std.proofs.Common.{◌≡◌, ◌⊎◌, inl, inr, ℕ, zero, suc, ◌<◌, ◌&&◌, Bool, true, false, IsTrue, List, [], ◌∷◌, ◌++◌, length, map, get_or, slice_set, refl, sym, ap, subst, ◌∙◌, arith}
+use Rattle.std.proofs.Common.{◌≡◌, ◌⊎◌, inl, inr, ℕ, zero, suc, ◌&&◌, Bool, true, false, IsTrue, List, [], ◌∷◌, ◌++◌, map, get_or, slice_set, refl, sym, ap, subst, ◌∙◌}
 use Rattle.std.proofs.lemmas.Bool.{true≢false}
 use Rattle.outside.specs.Along.{left_between}
 use Rattle.outside.specs.DiskModel.{DiskState}
-use Rattle.gated_log.specs.Calls.{ImagesHave}
 use Rattle.gated_log.specs.PlainLog.{AtRest, HasList, InDoubt, Lost, PlainLog, Standing, is_in_doubt, with_doubted}
 use Rattle.gated_log.specs.Records.{records}
 use Rattle.gated_log.specs.Stands.{IsBeforeOrAfter}

@@ -1,5 +1,5 @@
 -- A disk of the manifest moves.
-use Rattle.std.proofs.Common.{◌≡◌, ◌⊎◌, inl, inr, ℕ, ◌<◌, ◌≤◌, IsTrue, IsErrOf, Result, OnOk, List, [], ◌∷◌, ◌++◌, length, map, slice_index_or, None, Option, refl, sym, ap, subst, ◌∙◌, arith}
+use Rattle.std.proofs.Common.{◌≡◌, inl, inr, ℕ, ◌≤◌, IsTrue, Result, List, [], ◌∷◌, ◌++◌, map, None, Option, refl, sym, ap, subst, ◌∙◌, arith}
 use Rattle.outside.specs.Along.{keeps_step, WithinBoth}
 use Rattle.outside.specs.Cause.{Rose}
 use Rattle.outside.specs.DiskModel.{DiskState, WritesNone}
@@ -7,8 +7,6 @@ use Rattle.gated_log.specs.Blame as log
 use Rattle.gated_log.specs.PlainLog.{PlainLog}
 use Rattle.gated_log.specs.Records.{records}
 use Rattle.gated_log.specs.declared.refused.LogRefused.{LogRefused}
-use Rattle.gated_log.specs.declared.refused.LogRefused.TheVariants.{Fault}
-use Rattle.pair_log.specs.declared.doubt.Doubt.TheVariants.{Nothing}
 use Rattle.pair_log.specs.declared.side.Side.{Side}
 use Rattle.pair_log.specs.declared.side.Side.TheVariants.{First, Second}
 use Rattle.pair_log.specs.Epochs.{read_pair}
@@ -16,10 +14,10 @@ use Rattle.pair_log.specs.PlainPair as pair
 use Rattle.pair_log.specs.PlainPair.{HasEither, PlainPair, after_doubt, after_of, both_disks, first_disk, second_disk}
 use Rattle.pair_log.specs.Sides.{first_of, second_of}
 use Rattle.shard_disks.specs.Blame.{IsBlamed, SomeRose}
-use Rattle.shard_disks.specs.Calls.{IsRead, Told}
-use Rattle.shard_disks.specs.Images.{KeepsDisks, MayLeaveAll, WithinAll, faults_of, tell_all}
+use Rattle.shard_disks.specs.Calls.{IsRead}
+use Rattle.shard_disks.specs.Images.{KeepsDisks, WithinAll, faults_of, tell_all}
 use Rattle.shard_disks.specs.Lists.{EachHas, Pairwise}
-use Rattle.shard_disks.specs.Outline.{Reads, reads_in}
+use Rattle.shard_disks.specs.Outline.{reads_in}
 use Rattle.shard_disks.specs.PlainDisks.{PlainDisks, all_disks, disk_of, disks_in, outline_of}
 use Rattle.shard_disks.specs.Stands.{IsCounted, IsDisks, RestsNow}
 use Rattle.shard_disks.proofs.DiskLemmas.{tell_kept, writes_no_byte}

@@ -1,26 +1,21 @@
 -- The logs of all slots are mounted: what they hold then, and what a crash leaves meanwhile.
-use Rattle.std.proofs.Common.{◌≡◌, ◌⊎◌, inl, inr, ℕ, zero, suc, ◌+◌, ◌-◌, ◌^◌, ◌<◌, ◌≤◌, Bool, true, false, if◌then◌else◌, IsTrue, List, [], ◌∷◌, ◌++◌, length, map, None, Option, Some, refl, sym, ap, subst, ◌∙◌, arith}
-use Rattle.std.proofs.lemmas.Bool.{true≢false}
-use Rattle.std.specs.List.{list_all}
-use Rattle.outside.specs.Along.{WithinBoth, left_between}
+use Rattle.std.proofs.Common.{◌≡◌, ◌⊎◌, inl, inr, ℕ, zero, suc, ◌-◌, ◌^◌, ◌≤◌, Bool, true, false, if◌then◌else◌, IsTrue, List, [], ◌∷◌, length, map, None, Option, Some, refl, sym, ap, subst, ◌∙◌, arith}
 use Rattle.outside.specs.DiskModel.{DiskState}
 use Rattle.gated_log.specs.Calls.{ImagesHave}
 use Rattle.gated_log.specs.Closing.{with_gate}
-use Rattle.gated_log.specs.PlainLog.{AllHave, AtRest, PlainLog, end_of}
+use Rattle.gated_log.specs.PlainLog.{AllHave, PlainLog, end_of}
 use Rattle.gated_log.specs.Records.{Front, and_front, front_record, records, records_within, rest_of}
 use Rattle.pair_log.specs.declared.side.Side.{Side}
 use Rattle.pair_log.specs.declared.side.Side.TheVariants.{First, Second}
 use Rattle.pair_log.specs.Epochs.{active_records, epoch_of, is_later, read_pair, second_counts}
-use Rattle.pair_log.specs.Mounted.{AreMounting, IsBeginning, IsBegun, IsMounting, begun, begun_read, first_record, or_first}
-use Rattle.pair_log.specs.PlainPair as pair
-use Rattle.pair_log.specs.PlainPair.{PlainPair, first_disk, second_disk}
+use Rattle.pair_log.specs.Mounted.{AreMounting, IsBeginning, IsMounting, begun, first_record, or_first}
 use Rattle.pair_log.specs.Sides.{first_of, second_of}
 use Rattle.shard_disks.specs.Images.{MayLeaveAll, WithinAll, faults_of, seen_of, tell_all, tells_of}
 use Rattle.shard_disks.specs.Lists.{EachHas, Pairwise}
-use Rattle.shard_disks.specs.Mounting.{IsLogMounted, MountsPair, closed}
+use Rattle.shard_disks.specs.Mounting.{IsLogMounted, closed}
 use Rattle.shard_disks.specs.Outline.{payloads_of}
 use Rattle.shard_disks.specs.PlainDisks.{disk_of, outline_of}
-use Rattle.shard_disks.specs.Stands.{IsCounted, IsDisks, RestsNow}
+use Rattle.shard_disks.specs.Stands.{IsCounted, RestsNow}
 use Rattle.shard_disks.proofs.ImageLemmas.{both_true, lists}
 
 -- ---- lists

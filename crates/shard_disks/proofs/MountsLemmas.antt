@@ -1,22 +1,22 @@
 -- All disks are mounted, and at each moment of it images read as at the start, or with the first snapshot.
 use Rattle.std.proofs.Common.{◌≡◌, ◌⊎◌, inl, inr, ℕ, suc, ◌-◌, ◌^◌, ◌≤◌, IsTrue, List, [], ◌∷◌, ◌++◌, length, map, None, refl, sym, ap, subst, ◌∙◌, arith}
-use Rattle.std.proofs.lemmas.List.{append-nil, length-map, map-append}
-use Rattle.outside.specs.Along.{Along, Keeps, WithinBoth, keeps_and, keeps_step, left_between}
+use Rattle.std.proofs.lemmas.List.{length-map, map-append}
+use Rattle.outside.specs.Along.{Along, Keeps, WithinBoth, keeps_and, keeps_step}
 use Rattle.outside.specs.DiskModel.{DiskState}
-use Rattle.gated_log.specs.PlainLog.{AtRest, PlainLog, end_of}
+use Rattle.gated_log.specs.PlainLog.{PlainLog, end_of}
 use Rattle.gated_log.specs.Records.{records}
 use Rattle.pair_log.specs.Epochs.{read_pair}
 use Rattle.pair_log.specs.Mounted.{AreMounting, or_first}
 use Rattle.pair_log.specs.PlainPair.{PlainPair, both_disks, first_disk, second_disk}
 use Rattle.shard_disks.specs.declared.limits.Limits.{Limits}
-use Rattle.shard_disks.specs.Images.{KeepsDisks, MayLeaveAll, WithinAll, faults_of, seen_of, tell_all, tells_of}
+use Rattle.shard_disks.specs.Images.{KeepsDisks, WithinAll, tell_all}
 use Rattle.shard_disks.specs.Lists.{EachHas, Pairwise}
-use Rattle.shard_disks.specs.Mounting.{IsLogMounted, MountsDisks, MountsPair, ReadsAsBefore, closed}
-use Rattle.shard_disks.specs.Outline.{Reads, reads_in, with_first}
-use Rattle.shard_disks.specs.PlainDisks.{PlainDisks, behind_pair, disk_of, disks_in, outline_of}
+use Rattle.shard_disks.specs.Mounting.{IsLogMounted, MountsDisks, MountsPair, ReadsAsBefore}
+use Rattle.shard_disks.specs.Outline.{Reads}
+use Rattle.shard_disks.specs.PlainDisks.{behind_pair, disks_in, outline_of}
 use Rattle.shard_disks.specs.Stands.{IsCounted, IsDisks}
 use Rattle.shard_disks.proofs.DiskLemmas.{tell_kept}
-use Rattle.shard_disks.proofs.ImageLemmas.{lists, manifest_reads, stays_now, told_both}
+use Rattle.shard_disks.proofs.ImageLemmas.{manifest_reads, stays_now, told_both}
 use Rattle.shard_disks.proofs.ListLemmas.{each_mapped}
 use Rattle.shard_disks.proofs.MountLemmas.{PairBefore, SlotsBefore, all_arms, all_before, all_bytes, all_ends, all_faults, all_have, all_limits, all_lists, all_rest, all_tell, counted_pair, pair_before, pairs_length, told_three, told_turned}
 use Rattle.shard_disks.proofs.StandLemmas.{rest_read}
@@ -65,9 +65,6 @@ module _ {D : Type 0} (state : D → DiskState) (disks rest : List D) (limits : 
         (counted_pair snapshot (state p.first).seen (state p.second).seen (subst (λ n. n ≤ 2 ^ 64 - 1) (sized p.first first_told) p.first_size) (subst (λ n. n ≤ 2 ^ 64 - 1) (sized p.second second_told) p.second_size));
     slots_have = all_have state limits.slot rest logs mounted;
   }
-
-  were : List D
-  were = p.first ∷ (p.second ∷ rest)
 
   kept : KeepsDisks state (p.first ∷ (p.second ∷ rest)) (disks_in m logs)
   kept = record {

@@ -1,19 +1,18 @@
 -- A record of one slot is read.
-use Rattle.std.proofs.Common.{◌≡◌, ℕ, suc, ◌<◌, IsTrue, Result, OnOk, List, [], ◌∷◌, ◌++◌, length, map, slice_index_or, None, Option, refl, sym, ap, subst, ◌∙◌}
+use Rattle.std.proofs.Common.{◌≡◌, ℕ, suc, IsTrue, Result, OnOk, List, [], ◌∷◌, ◌++◌, map, slice_index_or, None, Option, sym, ap, subst, ◌∙◌}
 use Rattle.outside.specs.Along.{keeps_step}
 use Rattle.outside.specs.DiskModel.{DiskState}
 use Rattle.outside.specs.Results.{on_ok_then}
 use Rattle.gated_log.specs.Blame as log
 use Rattle.gated_log.specs.Calls.{ImagesHave}
-use Rattle.gated_log.specs.PlainLog.{AtRest, HasList, PlainLog}
-use Rattle.gated_log.specs.Records.{records}
+use Rattle.gated_log.specs.PlainLog.{HasList, PlainLog}
 use Rattle.gated_log.specs.declared.refused.LogRefused.{LogRefused}
 use Rattle.pair_log.specs.PlainPair.{PlainPair}
 use Rattle.shard_disks.specs.Blame.{IsBlamed}
 use Rattle.shard_disks.specs.Calls.{IsRead, Told}
 use Rattle.shard_disks.specs.Images.{WithinAll, faults_of, tell_all}
 use Rattle.shard_disks.specs.Lists.{EachHas, Moved}
-use Rattle.shard_disks.specs.Outline.{Reads, reads_in, slot_at}
+use Rattle.shard_disks.specs.Outline.{reads_in, slot_at}
 use Rattle.shard_disks.specs.PlainDisks.{PlainDisks, all_disks, disks_in, outline_of}
 use Rattle.shard_disks.specs.SlotCalls.{IsLogRead}
 use Rattle.shard_disks.specs.Stands.{IsDisks, LogsStand, RestsNow}
@@ -59,9 +58,6 @@ module _ {D : Type 0} (state : D → DiskState) (m : PlainPair D) (olds news : L
 
   same_outlines : map outline_of news ≡ map outline_of olds
   same_outlines = moved_same outline_of (IsLogRead state k before now result) (λ old new c. ap outline_of c.stays) i olds news moved
-
-  reads_with : List (List (List ℕ)) → Reads
-  reads_with l = record { manifest = m.active.payloads; slots = l }
 
   -- what a crash during it leaves
   moments : (only : (disk : D) (image : List ℕ) → (state disk).left_since (state disk).calls image → (state disk).may_leave image) → IsTrue (tell_all state (disks_in m olds))

@@ -1,24 +1,23 @@
 -- A mount is refused, and all disks are handed back.
-use Rattle.std.proofs.Common.{◌≡◌, ◌⊎◌, inl, inr, ℕ, zero, suc, ◌+◌, ◌<◌, ◌≤◌, IsTrue, List, [], ◌∷◌, ◌++◌, length, map, take, drop, Vec, refl, sym, ap, subst, ◌∙◌, arith, length-append}
+use Rattle.std.proofs.Common.{◌≡◌, inl, inr, ℕ, suc, ◌+◌, ◌<◌, IsTrue, List, [], ◌∷◌, ◌++◌, length, map, take, drop, Vec, refl, sym, ap, subst, ◌∙◌, arith, length-append}
 use Rattle.std.proofs.lemmas.List.{length-map}
 use Rattle.std.specs.declared.alloc.Global.{Global}
 use Rattle.std.specs.Int.{w32, to_be_bytes}
-use Rattle.outside.specs.DiskModel.{DiskState, Torn, written_at}
+use Rattle.outside.specs.DiskModel.{DiskState, Torn}
 use Rattle.outside.specs.Torn.{torn_same, torn_written}
-use Rattle.gated_log.specs.Blame.{IsBlamedFor}
 use Rattle.gated_log.specs.Calls.{with_record}
-use Rattle.gated_log.specs.Closing.{IsGateTorn, WithGate, with_gate}
+use Rattle.gated_log.specs.Closing.{IsGateTorn}
 use Rattle.gated_log.specs.PlainLog.{PlainLog, end_of}
 use Rattle.gated_log.specs.Records.{body_bytes, records}
 use Rattle.gated_log.specs.declared.refused.LogRefused.{LogRefused}
-use Rattle.gated_log.specs.declared.refused.LogRefused.TheVariants.{Fault, Full, Memory}
+use Rattle.gated_log.specs.declared.refused.LogRefused.TheVariants.{Memory}
 use Rattle.pair_log.specs.declared.side.Side.{Side}
 use Rattle.pair_log.specs.declared.side.Side.TheVariants.{First, Second}
 use Rattle.pair_log.specs.Mounted.{IsBlamedOn, IsMountTorn, first_record, mounted_first}
 use Rattle.pair_log.specs.PlainPair.{PlainPair, first_disk, second_disk}
 use Rattle.pair_log.specs.Sides.{number_of}
 use Rattle.shard_disks.specs.Blame.{IsBlamedAt}
-use Rattle.shard_disks.specs.Images.{KeepsDisks, arms_of, faults_of, seen_of, tell_all, tells_of}
+use Rattle.shard_disks.specs.Images.{arms_of, faults_of, seen_of, tell_all, tells_of}
 use Rattle.shard_disks.specs.Lists.{EachHas, Pairwise}
 use Rattle.shard_disks.specs.Mounting.{AreMountTorn, IsLogMounted, IsLogRefused, IsStopped, MountsPair, RefusesDisks, RefusesPair}
 use Rattle.shard_disks.specs.PlainDisks.{disk_of, disks_in}

@@ -1,13 +1,12 @@
 -- A slot has more room; and what stands at a place.
-use Rattle.std.proofs.Common.{◌≡◌, ℕ, zero, suc, ◌<◌, ◌≤◌, ◌-◌, true, false, IsTrue, Result, Ok, Err, OnOk, List, [], ◌∷◌, ◌++◌, length, map, get_or, slice_set, slice_get, None, Some, Option, refl, sym, ap, subst, ◌∙◌, arith}
+use Rattle.std.proofs.Common.{◌≡◌, ℕ, zero, suc, ◌<◌, ◌≤◌, ◌-◌, true, false, IsTrue, Result, OnOk, List, [], ◌∷◌, length, map, get_or, slice_set, slice_get, None, Some, Option, refl, sym, ap, subst, ◌∙◌, arith}
 use Rattle.outside.specs.DiskModel.{DiskState}
 use Rattle.gated_log.specs.Calls.{ImagesHave}
 use Rattle.gated_log.specs.PlainLog.{AtRest, InDoubt, Lost, PlainLog, Standing, end_of, is_in_doubt, is_lost}
 use Rattle.pair_log.specs.PlainPair.{PlainPair}
-use Rattle.shard_disks.specs.Calls.{Told}
 use Rattle.shard_disks.specs.Images.{tell_all}
 use Rattle.shard_disks.specs.Lists.{EachHas, HasAt, Moved}
-use Rattle.shard_disks.specs.Outline.{Outline, no_slot, slot_at}
+use Rattle.shard_disks.specs.Outline.{no_slot, slot_at}
 use Rattle.shard_disks.specs.PlainDisks.{disk_of, disks_in, outline_of}
 use Rattle.shard_disks.specs.SlotCalls.{HasMoreRoom}
 use Rattle.shard_disks.specs.Stands.{IsDisks, IsDoubted, LogsStand, RestsNow}

@@ -1,5 +1,5 @@
 -- The doubt of a slot ends.
-use Rattle.std.proofs.Common.{◌≡◌, ◌⊎◌, inl, inr, ℕ, zero, suc, ◌<◌, ◌+◌, ◌↔◌, true, IsTrue, IsErrOf, IfOk, Result, Ok, Err, OnOk, OnErr, List, [], ◌∷◌, ◌++◌, length, map, take, drop, get_or, slice_set, slice_index_or, None, Some, Option, refl, sym, ap, subst, ◌∙◌, arith}
+use Rattle.std.proofs.Common.{◌≡◌, ℕ, zero, suc, ◌+◌, ◌↔◌, IsTrue, IfOk, Result, Ok, Err, OnOk, OnErr, List, [], ◌∷◌, ◌++◌, length, map, take, drop, get_or, slice_set, slice_index_or, None, Some, Option, sym, ap, subst, ◌∙◌, arith}
 use Rattle.outside.specs.Along.{keeps_step}
 use Rattle.outside.specs.DiskModel.{DiskState}
 use Rattle.outside.specs.Results.{on_err, on_ok_then}
@@ -11,7 +11,7 @@ use Rattle.gated_log.specs.declared.refused.LogRefused.{LogRefused}
 use Rattle.gated_log.specs.declared.settled.Settled.{Settled}
 use Rattle.gated_log.specs.declared.settled.Settled.TheVariants.{In, Out}
 use Rattle.pair_log.specs.PlainPair.{PlainPair}
-use Rattle.shard_disks.specs.Calls.{EndsDoubt, Told}
+use Rattle.shard_disks.specs.Calls.{EndsDoubt}
 use Rattle.shard_disks.specs.Images.{WithinAll, seen_of, tell_all}
 use Rattle.shard_disks.specs.Lists.{EachHas, HasAt, Moved}
 use Rattle.shard_disks.specs.Outline.{IsEither, Outline, Reads, SlotOutline, payloads_after, payloads_of, reads_in, slot_at}

@@ -1,16 +1,16 @@
 -- What follows from what every value of the type keeps.
-use Rattle.std.proofs.Common.{◌≡◌, ◌⊎◌, inl, inr, ℕ, ◌<◌, ◌+◌, true, IsTrue, List, [], ◌∷◌, ◌++◌, length, map, None, Some, Option, refl, sym, ap, subst, ◌∙◌, arith}
+use Rattle.std.proofs.Common.{◌≡◌, ◌⊎◌, inl, inr, ℕ, ◌<◌, true, IsTrue, List, length, map, None, Some, Option, ap, subst}
 use Rattle.outside.specs.DiskModel.{DiskState}
 use Rattle.gated_log.specs.Calls.{ImagesHave}
 use Rattle.gated_log.specs.PlainLog.{AtRest, HasList, PlainLog, is_in_doubt}
 use Rattle.gated_log.specs.Records.{records}
 use Rattle.pair_log.specs.PlainPair.{PlainPair}
-use Rattle.shard_disks.specs.Images.{AllRead, MayLeaveAll, tell_all}
+use Rattle.shard_disks.specs.Images.{AllRead, tell_all}
 use Rattle.shard_disks.specs.Lists.{EachHas, HasAt}
-use Rattle.shard_disks.specs.Outline.{IsEither, Reads, no_slot, slot_at}
-use Rattle.shard_disks.specs.PlainDisks.{disk_of, disks_in, outline_of}
+use Rattle.shard_disks.specs.Outline.{IsEither, no_slot, slot_at}
+use Rattle.shard_disks.specs.PlainDisks.{disks_in, outline_of}
 use Rattle.shard_disks.specs.Stands.{IsDisks, IsDoubted, LogsStand, RestsNow, SlotsStand}
-use Rattle.shard_disks.proofs.ImageLemmas.{ReadsSame, all_rest, but_doubted, leave_but, leave_each, leave_reads, lists, lists_after, pairs_read, told_both}
+use Rattle.shard_disks.proofs.ImageLemmas.{ReadsSame, but_doubted, leave_but, leave_each, leave_reads, lists, lists_after, pairs_read, told_both}
 use Rattle.shard_disks.proofs.ListLemmas.{each_both, each_has, each_mapped, has_at, has_both, has_mapped}
 
 -- an image of a log at rest

@@ -1,5 +1,5 @@
 -- What the ten disks of a shard hold: the manifest of a pair of logs, and the records of eight slots.
-use Rattle.std.specs.Prelude.{ℕ, ◌≡◌, ◌⊎◌, List, [], ◌∷◌, ◌++◌, map, length, slice_index_or, slice_set, Option, Some, None, refl}
+use Rattle.std.specs.Prelude.{ℕ, ◌≡◌, ◌⊎◌, List, [], ◌∷◌, ◌++◌, map, slice_index_or, slice_set, Option, Some, None, refl}
 use Rattle.std.specs.Int.{w64, to_be_bytes}
 use Rattle.gated_log.specs.PlainLog.{AtRest, InDoubt, Standing, with_doubted}
 use Rattle.gated_log.specs.Records.{records}

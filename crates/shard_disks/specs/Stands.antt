@@ -3,7 +3,7 @@ use Rattle.std.specs.Prelude.{ℕ, ◌≡◌, ◌<◌, ◌≤◌, ◌-◌, ◌^�
 use Rattle.std.specs.declared.alloc.Global.{Global}
 use Rattle.outside.specs.DiskModel.{DiskState}
 use Rattle.gated_log.specs.Calls.{ImagesHave}
-use Rattle.gated_log.specs.PlainLog.{AtRest, PlainLog, Standing, is_in_doubt}
+use Rattle.gated_log.specs.PlainLog.{AtRest, PlainLog, is_in_doubt}
 use Rattle.pair_log.specs.declared.doubt.Doubt.TheVariants.{Nothing}
 use Rattle.pair_log.specs.PlainPair.{HasEither, PlainPair, Told}
 use Rattle.shard_disks.specs.Lists.{EachHas, HasAt}

@@ -1,10 +1,10 @@
 -- Of identifiers that are compared with those that an index awaits.
-use Rattle.std.proofs.Common.{◌≡◌, ◌≢◌, ℕ, suc, ◌+◌, ◌<◌, ◌≤◌, ◌&&◌, Bool, true, false, not, List, [], ◌∷◌, length, drop, get_or, slice_get, Some, None, refl, sym, ap, ◌∙◌, add-one, drop-cons, arith}
+use Rattle.std.proofs.Common.{◌≡◌, ◌≢◌, ℕ, suc, ◌+◌, ◌<◌, ◌&&◌, Bool, true, false, not, List, [], ◌∷◌, length, drop, get_or, slice_get, Some, None, refl, sym, ap, ◌∙◌, add-one, drop-cons, arith}
+use Rattle.std.proofs.lemmas.Bool.{not-true}
 use Rattle.std.proofs.lemmas.Option.{none-some, same_Some, slice_get-get_or}
 use Rattle.shard_terms.specs.ShardList.{Awaited}
 use Rattle.shard_index.specs.Triples.{same_triple}
 use Rattle.std.proofs.Math.Bool.{and-false}
-use Rattle.std.proofs.Math.ListN.{drop_of_length-le}
 use Rattle.shard_fold.specs.Fold.{are_same}
 
 pub other_lengths : (awaited others : List Awaited) → length awaited ≢ length others → are_same awaited others ≡ false
@@ -15,7 +15,7 @@ other_lengths (a ∷ awaited) (b ∷ others) ne =
     ap (λ t. same_triple a b && t) (other_lengths awaited others (λ e. ne (omega arith))) ∙ and-false (same_triple a b)
 
 -- the identifiers at a place, and those behind it
-pub one_compared : (awaited others : List Awaited) (k : ℕ) (a b : Awaited) → k < length awaited → k < length others →
+one_compared : (awaited others : List Awaited) (k : ℕ) (a b : Awaited) → k < length awaited → k < length others →
     a ≡ get_or awaited k a → b ≡ get_or others k b →
     are_same (drop k awaited) (drop k others) ≡ (same_triple a b && are_same (drop (k + 1) awaited) (drop (k + 1) others))
 one_compared awaited others k a b less in_others at at_others =
@@ -25,22 +25,13 @@ one_compared awaited others k a b less in_others at at_others =
     rest_of l k x less at = drop-cons l k x less ∙ ap (λ y. y ∷ drop (suc k) l) (sym at) ∙ ap (λ n. x ∷ drop n l) (sym (add-one k))
 
 -- what stands at a place
-pub found_at : (others : List Awaited) (k : ℕ) (b : Awaited) → k < length others → Some b ≡ slice_get others k → b ≡ get_or others k b
+found_at : (others : List Awaited) (k : ℕ) (b : Awaited) → k < length others → Some b ≡ slice_get others k → b ≡ get_or others k b
 found_at others k b less found = same_Some b (get_or others k b) (found ∙ slice_get-get_or others k b less)
 
 pub none_at : (others : List Awaited) (k : ℕ) (a : Awaited) → k < length others → None ≡ slice_get others k → ⊥
 none_at others k a less found = none-some (get_or others k a) (found ∙ slice_get-get_or others k a less)
 
-pub ended : (awaited others : List Awaited) (k : ℕ) → length awaited ≡ length others → length awaited ≤ k → are_same (drop k awaited) (drop k others) ≡ true
-ended awaited others k same le =
-    let all : length others ≤ k = omega arith in
-    ap (λ l. are_same l (drop k others)) (drop_of_length-le awaited le) ∙ ap (are_same []) (drop_of_length-le others all)
-
-pub is_unequal : (t : Bool) → true ≡ not t → t ≡ false
-is_unequal true e = cc
-is_unequal false e = refl
-
-pub is_equal : (t : Bool) → false ≡ not t → t ≡ true
+is_equal : (t : Bool) → false ≡ not t → t ≡ true
 is_equal true e = refl
 is_equal false e = cc
 
@@ -50,7 +41,7 @@ pub one_differs : (awaited others : List Awaited) (k : ℕ) (a b : Awaited) → 
     are_same awaited others ≡ are_same (drop k awaited) (drop k others) → false ≡ are_same awaited others
 one_differs awaited others k a b less in_others at found differs so_far =
     sym (so_far ∙ one_compared awaited others k a b less in_others at (found_at others k b in_others found)
-    ∙ ap (λ t. t && are_same (drop (k + 1) awaited) (drop (k + 1) others)) (is_unequal (same_triple a b) differs))
+    ∙ ap (λ t. t && are_same (drop (k + 1) awaited) (drop (k + 1) others)) (not-true (same_triple a b) (sym differs)))
 
 pub one_agrees : (awaited others : List Awaited) (k : ℕ) (a b : Awaited) → k < length awaited → k < length others →
     a ≡ get_or awaited k a → Some b ≡ slice_get others k → false ≡ not (same_triple a b) →

@@ -9,15 +9,10 @@ use Rattle.shard_terms.specs.ShardList.{Awaited, Cut, opening_list}
 use Rattle.record_codec.specs.declared.group.Op.{Op}
 use Rattle.record_codec.specs.declared.group.Op.TheVariants.{Store, Release, Forget}
 use Rattle.record_codec.specs.Spelling.{spelled_group, spelled_manifest, spelled_opening}
-use Rattle.record_codec.specs.Computing.{reading}
 use Rattle.shard_fold.specs.declared.asked.Asked.{Asked}
 use Rattle.shard_fold.specs.declared.unread.Where.TheVariants.{Manifest, Slot}
-use Rattle.shard_fold.specs.Fold.{Holds, IsDamaged, HasAnother, cuts_in, first_manifest, first_opening, folded}
-
--- `unfolding folding` opens what a fact about records that are written out needs
-unfoldable pub folding : Unit {0}
-unfolding reading cuts_in folded
-folding = tt
+use Rattle.shard_fold.specs.Fold.{Holds, IsDamaged, HasAnother, first_manifest, first_opening, folded}
+use Rattle.shard_fold.specs.Computing.{folding}
 
 -- the second of two shards, with three workers, and two messages a generation
 abbrev asked : Asked

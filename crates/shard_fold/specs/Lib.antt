@@ -1,4 +1,5 @@
 pub mod Fold
+pub mod Computing
 pub mod Giving
 pub mod Potential
 pub mod PotentialLaws

@@ -1,5 +1,5 @@
 // Where the generations of a shard begin.
-ghost use Rattle.std.specs.Prelude.{◌≡◌, ◌+◌, ◌≤◌, ◌++◌, ◌∷◌, [], length, true, None, Some, Ok, IfOk, OnOk};
+ghost use Rattle.std.specs.Prelude.{◌≡◌, ◌+◌, ◌≤◌, ◌++◌, ◌∷◌, [], length, true, None, Some, Ok, IfOk, OnOk, OnErr};
 ghost use Rattle.std.specs.List.{IsDistinct};
 ghost use Rattle.shard_terms.specs.ShardList.{newest};
 ghost use Rattle.shard_index.specs.Absorbing.{sealed_last};
@@ -124,6 +124,7 @@ pub fn open_behind(
     ensures cuts { OnOk result (index.new.cuts
         ≡ sealed_last sealed index.old.cuts ++ unsealed cut ∷ []) }
     ensures awaited { index.new.awaited ≡ index.old.awaited }
+    ensures stays { OnErr result (index.new ≡ index.old) }
     // What the slot can still take: as many identifiers are awaited as may be, and the generation takes no more messages than a
     // configuration may say.
     ensures short { length index.old.awaited ≤ MOST_AWAITED → cut.messages ≤ MOST_MESSAGES

@@ -1,4 +1,4 @@
-use Rattle.std.proofs.Common.{◌≡◌, ◌+◌, ◌≤◌, ◌∷◌, ◌++◌, [], arith, ap, length, ◌∙◌, vec_capacity, vec_len, rules, length-append}
+use Rattle.std.proofs.Common.{◌≡◌, ◌+◌, ◌∷◌, [], arith, ap, length, ◌∙◌, length-append}
 use Rattle.shard_disks.proofs.MountedLemmas.{next_mounted, then_stopped}
 use Rattle.shard_disks.proofs.mounting.mount_slots.Goals as goal
 

@@ -1,7 +1,6 @@
-use Rattle.std.proofs.Common.{◌≡◌, ◌<◌, ◌-◌, [], Some, OnOk, OnErr, ap, arith, length, subst, sym, ◌∙◌}
+use Rattle.std.proofs.Common.{◌≡◌, ◌-◌, [], OnOk, OnErr, ap, subst, ◌∙◌}
 use Rattle.outside.specs.DiskModel.{IsArmed}
 use Rattle.shard_disks.specs.Lists.{Moved, Pairwise}
-use Rattle.shard_disks.specs.Outline.{Outline}
 use Rattle.shard_disks.specs.PlainDisks.{PlainDisks, all_disks, all_mounted, disks_in, outline}
 use Rattle.shard_disks.proofs.ArmLemmas.{armed_disks, armed_moments, manifest_armed, slots_arm, slots_armed, slots_outlined, slots_refused}
 use Rattle.shard_disks.proofs.HistoryLemmas.{one_more}

@@ -1,6 +1,6 @@
 use Rattle.std.proofs.Common.{◌≡◌, ◌<◌, ◌-◌, Some, ap, arith, length, slice_get, subst, sym, ◌∙◌}
 use Rattle.pair_log.specs.PlainPair.{first_disk, second_disk}
-use Rattle.shard_disks.specs.PlainDisks.{PlainDisks, all_disks, disk_of}
+use Rattle.shard_disks.specs.PlainDisks.{PlainDisks, all_disks}
 use Rattle.shard_disks.proofs.RoomLemmas.{get_behind, get_here}
 use Rattle.shard_disks.proofs.shard_disks.ShardDisks.disk.Goals as goal
 

@@ -1,4 +1,4 @@
-use Rattle.std.proofs.Common.{◌≡◌, ◌<◌, ap, arith, length, map, subst, sym, ◌∙◌}
+use Rattle.std.proofs.Common.{◌≡◌, arith, subst}
 use Rattle.gated_log.specs.PlainLog.{end_of}
 use Rattle.shard_disks.specs.Calls.{Told}
 use Rattle.shard_disks.specs.Outline.{slot_in}

@@ -1,4 +1,4 @@
-use Rattle.std.proofs.Common.{◌≡◌, ◌+◌, ◌≤◌, [], ◌∷◌, ◌++◌, arith, length, ap, subst, sym, ◌∙◌, vec_capacity, vec_len}
+use Rattle.std.proofs.Common.{◌≡◌, ◌+◌, [], ◌∷◌, ◌++◌, arith, length, ap, subst, sym, ◌∙◌}
 use Rattle.shard_disks.specs.Mounting.{RefusesDisks}
 use Rattle.shard_disks.proofs.HistoryLemmas.{begun_alone}
 use Rattle.shard_disks.proofs.MountsLemmas.{mounted_disks, mounts}

@@ -1,7 +1,7 @@
-use Rattle.std.proofs.Common.{◌≡◌, ◌≤◌, ap, subst, [], ◌∷◌}
+use Rattle.std.proofs.Common.{◌≡◌, ap, subst, [], ◌∷◌}
 use Rattle.pair_log.specs.PlainPair.{first_disk, second_disk}
-use Rattle.shard_disks.specs.Outline.{Outline, slot_in, with_slot}
-use Rattle.shard_disks.specs.PlainDisks.{PlainDisks, all_disks, disks_in, outline}
+use Rattle.shard_disks.specs.Outline.{slot_in, with_slot}
+use Rattle.shard_disks.specs.PlainDisks.{PlainDisks, outline}
 use Rattle.shard_disks.proofs.RoomLemmas.{roomier_disks, roomier_more, roomier_outline, roomier_room, roomier_same}
 use Rattle.shard_disks.proofs.shard_disks.ShardDisks.reserve.Goals as goal
 

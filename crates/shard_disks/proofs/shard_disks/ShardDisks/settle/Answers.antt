@@ -1,7 +1,7 @@
-use Rattle.std.proofs.Common.{◌≡◌, ◌<◌, None, Some, Ok, Err, ap, arith, refl, length, subst, sym, true}
+use Rattle.std.proofs.Common.{◌≡◌, None, Ok, Err, refl, subst, sym, true}
 use Rattle.gated_log.specs.PlainLog.{is_in_doubt}
 use Rattle.shard_disks.specs.Outline.{no_slot}
-use Rattle.shard_disks.specs.PlainDisks.{PlainDisks, all_mounted, outline_of}
+use Rattle.shard_disks.specs.PlainDisks.{all_mounted, outline_of}
 use Rattle.shard_disks.specs.Stands.{IsDisks, IsDoubted, RestsNow}
 use Rattle.shard_disks.proofs.HistoryLemmas.{one_more}
 use Rattle.shard_disks.proofs.ListLemmas.{has_at, has_within}
