@@ -1,0 +1,4 @@
+pub mod Giving
+pub mod Held
+pub mod Reading
+pub mod Steps
