@@ -1,0 +1,11 @@
+mod PartLemmas
+mod ListLemmas
+mod SettleLemmas
+mod WriteLemmas
+mod ShowLemmas
+mod SlotLemmas
+mod StoreLemmas
+mod AnswerLemmas
+mod ArmLemmas
+mod MountLemmas
+mod OnceLemmas
