@@ -12,17 +12,17 @@ use Rattle.record_codec.specs.declared.group.Op.{Op}
 use Rattle.record_codec.specs.Records.{plain_ops}
 use Rattle.group_plan.specs.Plan.{planned}
 use Rattle.shard_fold.specs.declared.asked.Asked.{Asked}
-use Rattle.shard_disks.specs.Calls.{WriteNone, slot_seen}
-use Rattle.shard_disks.specs.Images.{faults_of, tell_all}
-use Rattle.shard_disks.specs.Outline.{Reads, slot_in}
+use Rattle.shard_disks.specs.Calls.{Told, WriteNone, slot_seen}
+use Rattle.shard_disks.specs.Images.{MayLeaveAll, faults_of, tell_all}
+use Rattle.shard_disks.specs.Outline.{Reads, reads_in, slot_in}
 use Rattle.shard_disks.specs.PlainDisks.{all_disks, outline}
 use Rattle.shard_reading.specs.Held.{HoldsEither, HoldsOne}
 use Rattle.shard_log.specs.Appending.{Appends, Follows, IsLeft, IsShown, Ticks, is_written}
 use Rattle.shard_log.specs.Parts.{HoldsAmong, IsPart}
-use Rattle.shard_log.specs.PlainShardLog.{PlainShardLog, known, known_by, own_slot, settled_by, settled_list, shown, stored}
+use Rattle.shard_log.specs.PlainShardLog.{ImagesHold, PlainShardLog, known, known_by, own_slot, settled_by, settled_list, shown, stored}
 use Rattle.shard_log.specs.Steps.{IsSettled, Settles, Shows}
 use Rattle.shard_log.proofs.PartLemmas.{blamed_as, blamed_none, blamed_then, ok_none, part_and, part_none, part_weaker}
-use Rattle.shard_log.proofs.StoreLemmas.{no_other}
+use Rattle.shard_log.proofs.StoreLemmas.{known_old, no_other, stored_old}
 
 -- a refusal is the same in both kinds of answer
 abbrev Refusal : Type 0
@@ -131,6 +131,13 @@ module _ {D : Type 0} (state : D → DiskState) (old mid : PlainShardLog D) wher
 
 -- ---- an append
 
+-- where all is shown each choice of images holds the list that is shown
+images_shown : {D : Type 0} (state : D → DiskState) (s : PlainShardLog D) → IsShown s → Told state s.disks → (images : List (List ℕ)) → MayLeaveAll state (all_disks s.disks) images →
+    HoldsEither s.asked (known s) (stored s) (reads_in images) → HoldsEither s.asked (shown s) (shown s) (reads_in images)
+images_shown state s shows told images left held =
+    subst (λ (l : ShardList). HoldsEither s.asked l (shown s) (reads_in images)) (known_old state s shows)
+    (subst (λ (l : ShardList). HoldsEither s.asked (known s) l (reads_in images)) (stored_old state s shows) held)
+
 left_behind : {D : Type 0} (before after : ShardList) (old new : PlainShardLog D) → IsLeft before before old new → IsLeft before after old new
 left_behind before after old new (inl same) = inl same
 left_behind before after old new (inr (inl left)) = inr (inl (left.0, inl (one left.1)))
@@ -147,6 +154,7 @@ module _ {D : Type 0} (state : D → DiskState) (ops : List Op) (now : ℕ) (old
     settled = ticks.settled;
     list = tt;
     shows = tt;
+    durable = tt;
     receipt = tt;
     full = λ is. absurd (ticks.never_full (again why Full is));
     not_full = tt;
@@ -188,14 +196,16 @@ module _ {D : Type 0} (state : D → DiskState) (ops : List Op) (now : ℕ) (old
 
     pub appends_ok : (receipt : ToldReceipt) (first : ℕ) → first ≡ next_of (shown mid) →
         receipt ≡ record { shard = new.asked.shard; first = first; next = next_of (shown new); list = shown new } →
+        ImagesHold state new (known new) (stored new) →
         Follows state (planned (shown mid) ops now) after mid new (Ok tt) → Appends state ops now old new (Ok receipt)
-    appends_ok receipt first first_is is follows =
+    appends_ok receipt first first_is is images follows =
         let asked : new.asked ≡ old.asked = (part (Ok tt) follows).asked in
         record {
           before = shown mid;
           settled = settled;
           list = follows.list;
           shows = follows.shows;
+          durable = λ told each left. images_shown state new follows.shows told each left (images told each left);
           receipt = is ∙ (λ i. record { shard = (asked i).shard; first = first_is i; next = next_of (shown new); list = shown new });
           full = λ e. absurd cc;
           not_full = follows.not_full;
@@ -222,6 +232,7 @@ module _ {D : Type 0} (state : D → DiskState) (ops : List Op) (now : ℕ) (old
       settled = settled;
       list = tt;
       shows = tt;
+      durable = tt;
       receipt = tt;
       full = λ is. follows.full (again why Full is);
       not_full = tt;

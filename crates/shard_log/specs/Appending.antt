@@ -15,7 +15,7 @@ use Rattle.shard_disks.specs.Lists.{Moved, Pairwise}
 use Rattle.shard_disks.specs.PlainDisks.{all_disks, outline}
 use Rattle.shard_reading.specs.Held.{HoldsEither}
 use Rattle.shard_log.specs.Parts.{HoldsAmong, IsBlamed, IsPart}
-use Rattle.shard_log.specs.PlainShardLog.{PlainShardLog, known, shown, stored}
+use Rattle.shard_log.specs.PlainShardLog.{ImagesHold, PlainShardLog, known, shown, stored}
 use Rattle.shard_log.specs.Steps.{IsSettled}
 
 -- nothing is in doubt, and the list shows all that is stored
@@ -65,7 +65,8 @@ pub record Follows {D : Type 0} (state : D → DiskState) (plan : Planned) (afte
   pub part : IsPart state (HoldsEither old.asked (shown old) after) old new
   pub cause : IsBlamed (faults_of state (all_disks old.disks)) (faults_of state (all_disks new.disks)) result
 
--- After an append of a group at a moment: a doubt was settled first, to a list. Ok has stored the group in it, and shows that; its receipt tells it. The
+-- After an append of a group at a moment: a doubt was settled first, to a list. Ok has stored the group in it, shows that, and
+-- each choice of images holds it; its receipt tells it. The
 -- refusals for room come exactly where the group is refused so over this list, and then nothing is written. At each moment each choice of images
 -- holds what was there, with what was in doubt or without, or the list with the group.
 pub record Appends {D : Type 0} (state : D → DiskState) (ops : List Op) (now : ℕ) (old new : PlainShardLog D) (result : Result ToldReceipt AppendRefused) : Type 0 where
@@ -73,6 +74,7 @@ pub record Appends {D : Type 0} (state : D → DiskState) (ops : List Op) (now :
   pub settled : IsSettled state old before
   pub list : OnOk result (shown new ≡ store before (plain_ops ops) now)
   pub shows : OnOk result (IsShown new)
+  pub durable : OnOk result (ImagesHold state new (shown new) (shown new))
   pub receipt :
       IfOk result (λ receipt. receipt ≡ record { shard = old.asked.shard; first = next_of before; next = next_of (shown new); list = shown new })
   pub full : result ≡ Err Full → planned before ops now ≡ IsFull

@@ -1,7 +1,6 @@
 // The list of a shard on its disks.
 ghost use Rattle.std.specs.Prelude.{◌≡◌, ◌<◌, ◌≤◌, length, true, is_some, slice_get, None, Some, IsTrue, IfOk, IfErr};
 ghost use Rattle.shard_terms.specs.ShardList.{next_of};
-ghost use Rattle.shard_terms.specs.Lists.{IsList};
 ghost use Rattle.shard_terms.specs.Storing.{store};
 ghost use Rattle.topic_name.specs.PlainConfig.{plain_config};
 ghost use Rattle.topic_terms.specs.Limits.{is_within_limits};
@@ -61,16 +60,6 @@ impl<D: Disk> Model for ShardLog<D> {
 }
 
 impl<D: Disk> ShardLog<D> {
-    // ---- what holds of every value
-
-    // What every value keeps.
-    fn facts(&self)
-        ensures keeps { IsShardLog D.state self.now }
-        ensures order { IsList (shown self.now) }
-    {
-        self.index.facts();
-    }
-
     // The slot of the newest generation.
     fn slot(&self) -> u8
         ensures slot { result ≡ own_slot self.now }
@@ -253,7 +242,10 @@ impl<D: Disk> ShardLog<D> {
         }
         let first = self.index.next_offset();
         match self.store_group(ops, now) {
-            Ok(()) => Ok(self.receipt(first)),
+            Ok(()) => {
+                let _images = self.doubt();
+                Ok(self.receipt(first))
+            }
             Err(why) => Err(why),
         }
     }

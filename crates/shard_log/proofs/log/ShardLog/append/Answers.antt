@@ -10,7 +10,7 @@ returns-in-Err g c = record { appends = appends_not g.D.Disk.state c.args.ops.no
 pub returns-in-Ok : goal.returns-in-Ok
 returns-in-Ok g c = record {
   appends = appends_ok g.D.Disk.state c.args.ops.now c.args.now c.args.self.now c.tick.new.self c.in_default.ensures.ticks c.store_group.new.self c.receipt.result c.next_offset-first.result
-      (c.next_offset-first.ensures ∙ ap (λ (s : PlainShardLog g.row.D.Denot). next_of (shown s)) c.self.view_is) c.receipt.ensures c.in-Ok.ensures.follows;
+      (c.next_offset-first.ensures ∙ ap (λ (s : PlainShardLog g.row.D.Denot). next_of (shown s)) c.self.view_is) c.receipt.ensures c.doubt-images.ensures.images c.in-Ok.ensures.follows;
 }
 
 pub returns-in-Err-store_group : goal.returns-in-Err-store_group
