@@ -5,18 +5,19 @@ Run at the top of the repository: python3 bench/shards.py
 It builds the program where it is missing, and prints the ratio of N to 2N appends of groups of 1 and of 64 messages with 100
 bytes of payload, of mounts of a shard after N and 2N appends, and the bytes that a publish takes on disk beside its 100.
 It ends with 1 where a ratio is above 2.3. Times are processor time. What is compared is run in turn, five times, and the
-least time of each counts; what a run needs before what is timed is taken off.
+least time of each counts; what a run needs before what is timed is taken off. The sizes are such that a shard is larger than
+the caches in either run.
 """
 import subprocess
 import sys
 
 from timing import Program, ratio
 
-ALONE = 2000
-TOGETHER = 200
-TIMES = 10
-RECORDS = 2000
-MOUNTS = 50
+ALONE = 16000
+TOGETHER = 250
+TIMES = 50
+RECORDS = 8000
+MOUNTS = 200
 
 
 def is_right(words, text):
