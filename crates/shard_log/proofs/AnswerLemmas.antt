@@ -95,6 +95,7 @@ module _ {D : Type 0} (state : D → DiskState) (old mid : PlainShardLog D) wher
         never_full = others.0;
         never_await_full = others.1;
         left = left result shows.memory;
+        in_doubt = λ is. absurd (others.2 is);
         writes_none = subst (λ ds. WriteNone state (all_disks old.disks) ds) (sym (ap (λ (s : PlainShardLog D). all_disks s.disks) shows.stays)) settles.writes_none;
         part = part_weaker state (HoldsEither old.asked (known old) (stored old)) (HoldsAmong old.asked (known old) (stored old) (stored mid)) old new
             (among_either old.asked (known old) (stored old) (stored mid))
@@ -123,6 +124,7 @@ module _ {D : Type 0} (state : D → DiskState) (old mid : PlainShardLog D) wher
         never_full = λ is. absurd cc;
         never_await_full = λ is. absurd cc;
         left = inl ((λ i. known_by (settles.stays_open i) (shown_same i) (stored_same i)), stored_same);
+        in_doubt = λ is none. settles.was_open (sym settles.stays_open ∙ none);
         writes_none = settles.writes_none;
         part = part_weaker state (HoldsEither old.asked (known old) (stored old)) (HoldsAmong old.asked (known old) (stored old) found.0) old mid
             (among_either old.asked (known old) (stored old) found.0) settles.part;
@@ -162,6 +164,7 @@ module _ {D : Type 0} (state : D → DiskState) (ops : List Op) (now : ℕ) (old
     not_await_full = tt;
     unchanged = λ is. absurd (never is);
     left = left_behind ticks.before (store ticks.before (plain_ops ops) now) old mid ticks.left;
+    in_doubt = λ is. ticks.in_doubt (again why Fault is);
     unwritten = λ is. ticks.writes_none;
     part = part_weaker state (HoldsAmong old.asked (known old) (stored old) ticks.before) (HoldsAmong old.asked (known old) (stored old) (store ticks.before (plain_ops ops) now)) old mid
         (among_others old.asked (known old) (stored old) (store ticks.before (plain_ops ops) now) ticks.before ticks.settled.either) ticks.part;
@@ -213,6 +216,7 @@ module _ {D : Type 0} (state : D → DiskState) (ops : List Op) (now : ℕ) (old
           not_await_full = follows.not_await_full;
           unchanged = λ e. absurd (never e);
           left = tt;
+          in_doubt = λ is none. absurd cc;
           unwritten = unwritten (Ok tt) follows;
           part = part (Ok tt) follows;
           cause = blamed_as _ _ (Ok tt) (Ok receipt)
@@ -240,6 +244,7 @@ module _ {D : Type 0} (state : D → DiskState) (ops : List Op) (now : ℕ) (old
       not_await_full = tt;
       unchanged = λ is. let same : new ≡ mid = follows.unchanged (both is) in (ap shown same, subst IsShown (sym same) ticks.shows);
       left = inr follows.left;
+      in_doubt = λ is. follows.in_doubt (again why Fault is);
       unwritten = unwritten (Err why) follows;
       part = part (Err why) follows;
       cause = blamed_as _ _ (Err why) (Err why) (blamed_then _ _ _ (Ok tt) (Err why) ticks.cause (ok_none tt Fault) follows.cause) (again why Fault) (back why Fault);

@@ -190,6 +190,7 @@ module _ {D : Type 0} (state : D → DiskState) (old : PlainShardLog D) (is : Is
     index = refl;
     stays = tt;
     stays_open = tt;
+    was_open = tt;
     only_fault = tt;
     writes_none = all_write_none state (all_disks old.disks);
     part = part_none state (HoldsEither old.asked (known old) (stored old)) old old refl refl refl refl;
@@ -250,6 +251,7 @@ module _ {D : Type 0} (state : D → DiskState) (old : PlainShardLog D) (is : Is
       index = refl;
       stays = tt;
       stays_open = tt;
+      was_open = tt;
       only_fault = tt;
       writes_none = ends.writes_none;
       part = part old.unshown (Ok In) ends;
@@ -266,6 +268,7 @@ module _ {D : Type 0} (state : D → DiskState) (old : PlainShardLog D) (is : Is
       index = refl;
       stays = tt;
       stays_open = tt;
+      was_open = tt;
       only_fault = tt;
       writes_none = ends.writes_none;
       part = part [] (Ok Out) ends;
@@ -279,6 +282,7 @@ module _ {D : Type 0} (state : D → DiskState) (old : PlainShardLog D) (is : Is
       index = refl;
       stays = refl;
       stays_open = ap (λ (o : Outline). o.doubted) ends.fault_stays;
+      was_open = λ none. let no : Some (own_slot old) ≡ None = sym doubted ∙ none in absurd cc;
       only_fault = refl;
       writes_none = ends.writes_none;
       part = part old.unshown (Err why) ends;

@@ -1,5 +1,5 @@
 -- What was planned is stored.
-use Rattle.std.proofs.Common.{◌≡◌, ◌⊎◌, inl, inr, ℕ, ◌+◌, ◌≤◌, Bool, true, false, if◌then◌else◌, IsErrOf, Result, Ok, Err, OnOk, OnErr, List, [], ◌∷◌, length, map, refl, sym, ap, subst, ◌∙◌}
+use Rattle.std.proofs.Common.{◌≡◌, ◌⊎◌, inl, inr, ℕ, ◌+◌, ◌≤◌, Bool, true, false, if◌then◌else◌, IsErrOf, Result, Ok, Err, OnOk, OnErr, List, [], ◌∷◌, length, map, refl, sym, ap, subst, ◌∙◌, Option, Some, None}
 use Rattle.outside.specs.DiskModel.{DiskState}
 use Rattle.outside.specs.Results.{on_ok_then}
 use Rattle.topic_terms.specs.Profile.{whole}
@@ -49,6 +49,10 @@ only_memory (Err e) why other memory is = let same : e ≡ Memory = cc in let na
 pub no_other : {T : Type 0} (result : Result T AppendRefused) → OnErr result (IsErrOf result Memory) → (result ≡ Err Full → ⊥) × (result ≡ Err AwaitFull → ⊥) × (result ≡ Err Fault → ⊥)
 no_other result memory = (only_memory result Full (λ e. absurd cc) memory, only_memory result AwaitFull (λ e. absurd cc) memory, only_memory result Fault (λ e. absurd cc) memory)
 
+-- what is doubted isn't at rest
+still_open : {doubted : Option ℕ} {slot : ℕ} → doubted ≡ Some slot → doubted ≡ None → ⊥
+still_open some none = absurd cc
+
 -- ---- storing where all is shown
 
 module _ {D : Type 0} (state : D → DiskState) (old : PlainShardLog D) (rests : IsShown old) where
@@ -69,6 +73,7 @@ module _ {D : Type 0} (state : D → DiskState) (old : PlainShardLog D) (rests :
     never_full = λ is. absurd cc;
     never_await_full = λ is. absurd cc;
     left = left_old after;
+    in_doubt = λ is none. absurd cc;
     part = part_none state (HoldsEither old.asked (shown old) after) old old refl refl refl refl;
     cause = blamed_none _ _ (Err Memory) refl (err_none Memory Fault (λ e. absurd cc));
   }
@@ -101,6 +106,7 @@ module _ {D : Type 0} (state : D → DiskState) (old : PlainShardLog D) (rests :
       never_full = λ is. absurd cc;
       never_await_full = λ is. absurd cc;
       left = inl (known_mid, inl stored_mid);
+      in_doubt = λ is none. absurd cc;
       part = part_mid (HoldsEither old.asked (shown old) after);
       cause = blamed_none _ _ (Err Memory) (ap (faults_of state) room.disks) (err_none Memory Fault (λ e. absurd cc));
     }
@@ -134,6 +140,7 @@ module _ {D : Type 0} (state : D → DiskState) (old : PlainShardLog D) (rests :
             never_full = λ is. absurd cc;
             never_await_full = λ is. absurd cc;
             left = inl (ap (λ d. known_by d (shown between) (stored between)) writes.in_doubt ∙ shown_between (Err why) writes, inr (stored_between (Err why) writes));
+            in_doubt = λ is none. absurd (still_open writes.in_doubt none);
             part = behind (Err why) writes;
             cause = blamed (Err why) writes;
           }
@@ -147,6 +154,7 @@ module _ {D : Type 0} (state : D → DiskState) (old : PlainShardLog D) (rests :
             never_full = others.0;
             never_await_full = others.1;
             left = left result shows.memory;
+            in_doubt = λ is. absurd (others.2 is);
             part = part_and state (HoldsEither old.asked (shown old) after) old between new (behind (Ok tt) writes)
                 (part_none state (HoldsEither old.asked (shown old) after) between new (ap (λ (s : PlainShardLog D). s.asked) shows.stays) shows.cuts
                 (ap (λ (s : PlainShardLog D). all_disks s.disks) shows.stays) (ap (λ (s : PlainShardLog D). s.disks.past) shows.stays));
@@ -233,6 +241,7 @@ module _ {D : Type 0} (state : D → DiskState) (old : PlainShardLog D) (rests :
     not_await_full = λ e. let no : KeepsNothing ≡ AwaitsTooMany = sym is ∙ e in absurd cc;
     unchanged = λ e. refl;
     left = tt;
+    in_doubt = λ is none. absurd cc;
     unwritten = λ e. refl;
     part = same;
     cause = blamed_none _ _ (Ok tt) refl (ok_none tt Fault);
@@ -248,6 +257,7 @@ module _ {D : Type 0} (state : D → DiskState) (old : PlainShardLog D) (rests :
     not_await_full = tt;
     unchanged = λ e. refl;
     left = left_old state old rests behind_group;
+    in_doubt = λ is none. absurd cc;
     unwritten = λ e. refl;
     part = same;
     cause = blamed_none _ _ (Err Full) refl (err_none Full Fault (λ e. absurd cc));
@@ -263,6 +273,7 @@ module _ {D : Type 0} (state : D → DiskState) (old : PlainShardLog D) (rests :
     not_await_full = tt;
     unchanged = λ e. refl;
     left = left_old state old rests behind_group;
+    in_doubt = λ is none. absurd cc;
     unwritten = λ e. refl;
     part = same;
     cause = blamed_none _ _ (Err AwaitFull) refl (err_none AwaitFull Fault (λ e. absurd cc));
@@ -278,6 +289,7 @@ module _ {D : Type 0} (state : D → DiskState) (old : PlainShardLog D) (rests :
     not_await_full = tt;
     unchanged = λ e. refl;
     left = left_old state old rests behind_group;
+    in_doubt = λ is none. absurd cc;
     unwritten = λ e. refl;
     part = same;
     cause = blamed_none _ _ (Err Memory) refl (err_none Memory Fault (λ e. absurd cc));
@@ -294,6 +306,7 @@ module _ {D : Type 0} (state : D → DiskState) (old : PlainShardLog D) (rests :
     not_await_full = known_ok result (λ e. let no : ToStore g ≡ AwaitsTooMany = sym is ∙ e in absurd cc);
     unchanged = λ e. never e;
     left = subst (λ (l : ShardList). OnErr result (IsLeftBehind (shown old) l new)) absorbed stores.left;
+    in_doubt = stores.in_doubt;
     unwritten = λ e. let no : true ≡ false = sym (ap is_written is) ∙ e in absurd cc;
     part = subst (λ (l : ShardList). IsPart state (HoldsEither old.asked (shown old) l) old new) absorbed stores.part;
     cause = stores.cause;

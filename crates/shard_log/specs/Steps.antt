@@ -29,6 +29,7 @@ pub record Settles {D : Type 0} (state : D → DiskState) (old new : PlainShardL
   pub index : new.index ≡ old.index
   pub stays : OnErr result (new ≡ record old { disks = new.disks })
   pub stays_open : OnErr result (new.disks.doubted ≡ old.disks.doubted)
+  pub was_open : OnErr result (old.disks.doubted ≡ None → ⊥)
   pub only_fault : OnErr result (IsErrOf result Fault)
   pub writes_none : WriteNone state (all_disks old.disks) (all_disks new.disks)
   pub part : IsPart state (HoldsEither old.asked (known old) (stored old)) old new
