@@ -7,7 +7,7 @@ use Rattle.shard_terms.specs.ShardList.{ShardList, next_of}
 use Rattle.shard_terms.specs.Storing.{store}
 use Rattle.shard_index.specs.declared.refused.AppendRefused.{AppendRefused}
 use Rattle.shard_index.specs.declared.refused.AppendRefused.TheVariants.{AwaitFull, Fault, Full}
-use Rattle.shard_index.specs.KeptIndex.{ToldReceipt}
+use Rattle.shard_index.specs.KeptIndex.{ToldReceipt, list_of}
 use Rattle.record_codec.specs.declared.group.Op.{Op}
 use Rattle.record_codec.specs.Records.{plain_ops}
 use Rattle.group_plan.specs.Plan.{planned}
@@ -95,6 +95,7 @@ module _ {D : Type 0} (state : D → DiskState) (old mid : PlainShardLog D) wher
         never_full = others.0;
         never_await_full = others.1;
         left = left result shows.memory;
+        shown_stays = stays result shows.memory;
         in_doubt = λ is. absurd (others.2 is);
         writes_none = subst (λ ds. WriteNone state (all_disks old.disks) ds) (sym (ap (λ (s : PlainShardLog D). all_disks s.disks) shows.stays)) settles.writes_none;
         part = part_weaker state (HoldsEither old.asked (known old) (stored old)) (HoldsAmong old.asked (known old) (stored old) (stored mid)) old new
@@ -110,6 +111,10 @@ module _ {D : Type 0} (state : D → DiskState) (old mid : PlainShardLog D) wher
       left (Ok x) same = tt
       left (Err e) same = inr (inl (ap known same ∙ ap (λ d. known_by d (shown mid) (stored mid)) settles.rests, inl (ap stored same)))
 
+      stays : (result : Result Unit AppendRefused) → OnErr result (new ≡ mid) → OnErr result (shown new ≡ shown old)
+      stays (Ok x) same = tt
+      stays (Err e) same = ap shown same ∙ ap list_of settles.index
+
   pub ticks_not : (why : AppendRefused) → Settles state old mid (Err why) → Ticks state old mid (Err why)
   ticks_not why settles =
       let found = some_settled state old in
@@ -124,6 +129,7 @@ module _ {D : Type 0} (state : D → DiskState) (old mid : PlainShardLog D) wher
         never_full = λ is. absurd cc;
         never_await_full = λ is. absurd cc;
         left = inl ((λ i. known_by (settles.stays_open i) (shown_same i) (stored_same i)), stored_same);
+        shown_stays = shown_same;
         in_doubt = λ is none. settles.was_open (sym settles.stays_open ∙ none);
         writes_none = settles.writes_none;
         part = part_weaker state (HoldsEither old.asked (known old) (stored old)) (HoldsAmong old.asked (known old) (stored old) found.0) old mid
@@ -164,6 +170,7 @@ module _ {D : Type 0} (state : D → DiskState) (ops : List Op) (now : ℕ) (old
     not_await_full = tt;
     unchanged = λ is. absurd (never is);
     left = left_behind ticks.before (store ticks.before (plain_ops ops) now) old mid ticks.left;
+    shown_stays = inl ticks.shown_stays;
     in_doubt = λ is. ticks.in_doubt (again why Fault is);
     unwritten = λ is. ticks.writes_none;
     part = part_weaker state (HoldsAmong old.asked (known old) (stored old) ticks.before) (HoldsAmong old.asked (known old) (stored old) (store ticks.before (plain_ops ops) now)) old mid
@@ -216,6 +223,7 @@ module _ {D : Type 0} (state : D → DiskState) (ops : List Op) (now : ℕ) (old
           not_await_full = follows.not_await_full;
           unchanged = λ e. absurd (never e);
           left = tt;
+          shown_stays = tt;
           in_doubt = λ is none. absurd cc;
           unwritten = unwritten (Ok tt) follows;
           part = part (Ok tt) follows;
@@ -244,6 +252,7 @@ module _ {D : Type 0} (state : D → DiskState) (ops : List Op) (now : ℕ) (old
       not_await_full = tt;
       unchanged = λ is. let same : new ≡ mid = follows.unchanged (both is) in (ap shown same, subst IsShown (sym same) ticks.shows);
       left = inr follows.left;
+      shown_stays = inr follows.shown_stays;
       in_doubt = λ is. follows.in_doubt (again why Fault is);
       unwritten = unwritten (Err why) follows;
       part = part (Err why) follows;

@@ -73,6 +73,7 @@ module _ {D : Type 0} (state : D → DiskState) (old : PlainShardLog D) (rests :
     never_full = λ is. absurd cc;
     never_await_full = λ is. absurd cc;
     left = left_old after;
+    shown_stays = refl;
     in_doubt = λ is none. absurd cc;
     part = part_none state (HoldsEither old.asked (shown old) after) old old refl refl refl refl;
     cause = blamed_none _ _ (Err Memory) refl (err_none Memory Fault (λ e. absurd cc));
@@ -106,6 +107,7 @@ module _ {D : Type 0} (state : D → DiskState) (old : PlainShardLog D) (rests :
       never_full = λ is. absurd cc;
       never_await_full = λ is. absurd cc;
       left = inl (known_mid, inl stored_mid);
+      shown_stays = shown_mid;
       in_doubt = λ is none. absurd cc;
       part = part_mid (HoldsEither old.asked (shown old) after);
       cause = blamed_none _ _ (Err Memory) (ap (faults_of state) room.disks) (err_none Memory Fault (λ e. absurd cc));
@@ -140,6 +142,7 @@ module _ {D : Type 0} (state : D → DiskState) (old : PlainShardLog D) (rests :
             never_full = λ is. absurd cc;
             never_await_full = λ is. absurd cc;
             left = inl (ap (λ d. known_by d (shown between) (stored between)) writes.in_doubt ∙ shown_between (Err why) writes, inr (stored_between (Err why) writes));
+            shown_stays = shown_between (Err why) writes;
             in_doubt = λ is none. absurd (still_open writes.in_doubt none);
             part = behind (Err why) writes;
             cause = blamed (Err why) writes;
@@ -154,6 +157,7 @@ module _ {D : Type 0} (state : D → DiskState) (old : PlainShardLog D) (rests :
             never_full = others.0;
             never_await_full = others.1;
             left = left result shows.memory;
+            shown_stays = stays result shows.memory;
             in_doubt = λ is. absurd (others.2 is);
             part = part_and state (HoldsEither old.asked (shown old) after) old between new (behind (Ok tt) writes)
                 (part_none state (HoldsEither old.asked (shown old) after) between new (ap (λ (s : PlainShardLog D). s.asked) shows.stays) shows.cuts
@@ -168,6 +172,10 @@ module _ {D : Type 0} (state : D → DiskState) (old : PlainShardLog D) (rests :
             ap known same ∙ (ap (λ d. known_by d (shown between) (stored between)) writes.rests ∙ stored_between (Ok tt) writes),
             ap stored same ∙ stored_between (Ok tt) writes,
           )
+
+          stays : (result : Result Unit AppendRefused) → OnErr result (new ≡ between) → OnErr result (shown new ≡ shown old)
+          stays (Ok x) same = tt
+          stays (Err e) same = ap shown same ∙ shown_between (Ok tt) writes
 
 -- ---- what a plan that stores tells
 
@@ -241,6 +249,7 @@ module _ {D : Type 0} (state : D → DiskState) (old : PlainShardLog D) (rests :
     not_await_full = λ e. let no : KeepsNothing ≡ AwaitsTooMany = sym is ∙ e in absurd cc;
     unchanged = λ e. refl;
     left = tt;
+    shown_stays = tt;
     in_doubt = λ is none. absurd cc;
     unwritten = λ e. refl;
     part = same;
@@ -257,6 +266,7 @@ module _ {D : Type 0} (state : D → DiskState) (old : PlainShardLog D) (rests :
     not_await_full = tt;
     unchanged = λ e. refl;
     left = left_old state old rests behind_group;
+    shown_stays = refl;
     in_doubt = λ is none. absurd cc;
     unwritten = λ e. refl;
     part = same;
@@ -273,6 +283,7 @@ module _ {D : Type 0} (state : D → DiskState) (old : PlainShardLog D) (rests :
     not_await_full = tt;
     unchanged = λ e. refl;
     left = left_old state old rests behind_group;
+    shown_stays = refl;
     in_doubt = λ is none. absurd cc;
     unwritten = λ e. refl;
     part = same;
@@ -289,6 +300,7 @@ module _ {D : Type 0} (state : D → DiskState) (old : PlainShardLog D) (rests :
     not_await_full = tt;
     unchanged = λ e. refl;
     left = left_old state old rests behind_group;
+    shown_stays = refl;
     in_doubt = λ is none. absurd cc;
     unwritten = λ e. refl;
     part = same;
@@ -306,6 +318,7 @@ module _ {D : Type 0} (state : D → DiskState) (old : PlainShardLog D) (rests :
     not_await_full = known_ok result (λ e. let no : ToStore g ≡ AwaitsTooMany = sym is ∙ e in absurd cc);
     unchanged = λ e. never e;
     left = subst (λ (l : ShardList). OnErr result (IsLeftBehind (shown old) l new)) absorbed stores.left;
+    shown_stays = stores.shown_stays;
     in_doubt = stores.in_doubt;
     unwritten = λ e. let no : true ≡ false = sym (ap is_written is) ∙ e in absurd cc;
     part = subst (λ (l : ShardList). IsPart state (HoldsEither old.asked (shown old) l) old new) absorbed stores.part;

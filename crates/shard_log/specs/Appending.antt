@@ -48,6 +48,7 @@ pub record Stores {D : Type 0} (state : D → DiskState) (after : ShardList) (ol
   pub never_full : result ≡ Err Full → ⊥
   pub never_await_full : result ≡ Err AwaitFull → ⊥
   pub left : OnErr result (IsLeftBehind (shown old) after new)
+  pub shown_stays : OnErr result (shown new ≡ shown old)
   pub in_doubt : result ≡ Err Fault → new.disks.doubted ≡ None → ⊥
   pub part : IsPart state (HoldsEither old.asked (shown old) after) old new
   pub cause : IsBlamed (faults_of state (all_disks old.disks)) (faults_of state (all_disks new.disks)) result
@@ -62,6 +63,7 @@ pub record Follows {D : Type 0} (state : D → DiskState) (plan : Planned) (afte
   pub not_await_full : OnOk result (plan ≡ AwaitsTooMany → ⊥)
   pub unchanged : (result ≡ Err Full) ⊎ (result ≡ Err AwaitFull) → new ≡ old
   pub left : OnErr result (IsLeftBehind (shown old) after new)
+  pub shown_stays : OnErr result (shown new ≡ shown old)
   pub in_doubt : result ≡ Err Fault → new.disks.doubted ≡ None → ⊥
   pub unwritten : is_written plan ≡ false → all_disks new.disks ≡ all_disks old.disks
   pub part : IsPart state (HoldsEither old.asked (shown old) after) old new
@@ -69,8 +71,8 @@ pub record Follows {D : Type 0} (state : D → DiskState) (plan : Planned) (afte
 
 -- After an append of a group at a moment: a doubt was settled first, to a list. Ok has stored the group in it, shows that, and
 -- each choice of images holds it; its receipt tells it. The
--- refusals for room come exactly where the group is refused so over this list, and then nothing is written. At each moment each choice of images
--- holds what was there, with what was in doubt or without, or the list with the group.
+-- refusals for room come exactly where the group is refused so over this list, and then nothing is written. A refusal shows what was shown, or that
+-- list. At each moment each choice of images holds what was there, with what was in doubt or without, or the list with the group.
 pub record Appends {D : Type 0} (state : D → DiskState) (ops : List Op) (now : ℕ) (old new : PlainShardLog D) (result : Result ToldReceipt AppendRefused) : Type 0 where
   pub before : ShardList
   pub settled : IsSettled state old before
@@ -85,12 +87,13 @@ pub record Appends {D : Type 0} (state : D → DiskState) (ops : List Op) (now :
   pub not_await_full : OnOk result (planned before ops now ≡ AwaitsTooMany → ⊥)
   pub unchanged : (result ≡ Err Full) ⊎ (result ≡ Err AwaitFull) → (shown new ≡ before) × IsShown new
   pub left : OnErr result (IsLeft before (store before (plain_ops ops) now) old new)
+  pub shown_stays : OnErr result ((shown new ≡ shown old) ⊎ (shown new ≡ before))
   pub in_doubt : result ≡ Err Fault → new.disks.doubted ≡ None → ⊥
   pub unwritten : is_written (planned before ops now) ≡ false → WriteNone state (all_disks old.disks) (all_disks new.disks)
   pub part : IsPart state (HoldsAmong old.asked (known old) (stored old) (store before (plain_ops ops) now)) old new
   pub cause : IsBlamed (faults_of state (all_disks old.disks)) (faults_of state (all_disks new.disks)) result
 
--- After a tick: a doubt was settled, and what was stored is shown. Nothing is written.
+-- After a tick: a doubt was settled, and what was stored is shown; a refusal shows what was shown. Nothing is written.
 pub record Ticks {D : Type 0} (state : D → DiskState) (old new : PlainShardLog D) (result : Result Unit AppendRefused) : Type 0 where
   pub before : ShardList
   pub settled : IsSettled state old before
@@ -99,6 +102,7 @@ pub record Ticks {D : Type 0} (state : D → DiskState) (old new : PlainShardLog
   pub never_full : result ≡ Err Full → ⊥
   pub never_await_full : result ≡ Err AwaitFull → ⊥
   pub left : OnErr result (IsLeft before before old new)
+  pub shown_stays : OnErr result (shown new ≡ shown old)
   pub in_doubt : result ≡ Err Fault → new.disks.doubted ≡ None → ⊥
   pub writes_none : WriteNone state (all_disks old.disks) (all_disks new.disks)
   pub part : IsPart state (HoldsAmong old.asked (known old) (stored old) before) old new
