@@ -33,3 +33,10 @@ one_shard = record { shards = 1; workers = 1; top = 1; below = 1; messages = 3; 
 pub may_publish : may_ask one_shard (Store hello ∷ []) ≡ true
 unfolding reading
 may_publish = refl
+
+abbrev pub two_shards : Config
+two_shards = record one_shard { shards = 2 }
+
+pub may_publish_to_two : may_ask two_shards (Store hello ∷ []) ≡ true
+unfolding reading
+may_publish_to_two = refl

@@ -2,7 +2,8 @@
 //!
 //! `record_rows` has each record, which is read and written again. `mount_rows` has what ten disks hold that have some
 //! records, and what is damaged. `stop_rows` has each device call of an append and of a mount of new disks failing in turn,
-//! with every image of that moment. `text_rows` has texts that are no topic name or filter.
+//! with every image of that moment. `text_rows` has texts that are no topic name or filter. `view_rows` has what views show of shards
+//! that are written.
 //!
 //! Bytes and texts that are wanted are worked out by hand from docs/FORMATS.md.
 #![tactic(auto)]
@@ -21,3 +22,5 @@ mod shown;
 mod stop_rows;
 #[cfg(test)]
 mod text_rows;
+#[cfg(test)]
+mod view_rows;

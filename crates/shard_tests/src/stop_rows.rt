@@ -15,9 +15,9 @@ use std::test::Fail;
 use topic_name::{Blob, Body, Message, Name, Topic};
 
 // Before the append, and behind it.
-const BEFORE: &str = "0..0 awaited 0";
+pub(crate) const BEFORE: &str = "0..0 awaited 0";
 
-const AFTER: &str = "0..1 p#0 q1 a/b 2 awaited 0";
+pub(crate) const AFTER: &str = "0..1 p#0 q1 a/b 2 awaited 0";
 
 fn hello(alloc: Global) -> Option<Message>
     ensures { IfSome result (λ message. message ≡ hello) }
@@ -41,7 +41,7 @@ fn hello(alloc: Global) -> Option<Message>
     })
 }
 
-fn group(alloc: Global) -> Option<Vec<Op>>
+pub(crate) fn group(alloc: Global) -> Option<Vec<Op>>
     ensures { IfSome result (λ ops. ops.items ≡ Store hello ∷ []) }
 {
     let message = hello(alloc)?;
