@@ -6,7 +6,7 @@ use Rattle.gated_log.specs.Closing.{is_closed_at}
 use Rattle.shard_terms.specs.ShardList.{ShardList, next_of}
 use Rattle.shard_terms.specs.Storing.{store}
 use Rattle.shard_index.specs.declared.refused.AppendRefused.{AppendRefused}
-use Rattle.shard_index.specs.declared.refused.AppendRefused.TheVariants.{AwaitFull, Fault, Full}
+use Rattle.shard_index.specs.declared.refused.AppendRefused.TheVariants.{AwaitFull, Fault, Full, Memory}
 use Rattle.shard_index.specs.KeptIndex.{ToldReceipt, list_of}
 use Rattle.record_codec.specs.declared.group.Op.{Op}
 use Rattle.record_codec.specs.Records.{plain_ops}
@@ -81,6 +81,10 @@ some_settled {D} state old = by (tell_all state (all_disks old.disks)) refl
     )
     by false tells = (known old, record { either = inl refl; exact = λ told. let no : false ≡ true = sym tells ∙ told in absurd cc })
 
+-- a fault isn't want of memory
+no_memory : (why : AppendRefused) → why ≡ Fault → refusal why ≡ Err Memory → ⊥
+no_memory why fault is = let named : why ≡ Memory = cc in let both : Fault ≡ Memory = sym fault ∙ named in absurd cc
+
 -- ---- a tick
 
 module _ {D : Type 0} (state : D → DiskState) (old mid : PlainShardLog D) where
@@ -97,6 +101,7 @@ module _ {D : Type 0} (state : D → DiskState) (old mid : PlainShardLog D) wher
         left = left result shows.memory;
         shown_stays = stays result shows.memory;
         in_doubt = λ is. absurd (others.2 is);
+        memory = λ is. ap (λ (s : PlainShardLog D). s.disks.doubted) shows.stays ∙ settles.rests;
         writes_none = subst (λ ds. WriteNone state (all_disks old.disks) ds) (sym (ap (λ (s : PlainShardLog D). all_disks s.disks) shows.stays)) settles.writes_none;
         part = part_weaker state (HoldsEither old.asked (known old) (stored old)) (HoldsAmong old.asked (known old) (stored old) (stored mid)) old new
             (among_either old.asked (known old) (stored old) (stored mid))
@@ -131,6 +136,7 @@ module _ {D : Type 0} (state : D → DiskState) (old mid : PlainShardLog D) wher
         left = inl ((λ i. known_by (settles.stays_open i) (shown_same i) (stored_same i)), stored_same);
         shown_stays = shown_same;
         in_doubt = λ is none. settles.was_open (sym settles.stays_open ∙ none);
+        memory = λ is. absurd (no_memory why fault is);
         writes_none = settles.writes_none;
         part = part_weaker state (HoldsEither old.asked (known old) (stored old)) (HoldsAmong old.asked (known old) (stored old) found.0) old mid
             (among_either old.asked (known old) (stored old) found.0) settles.part;
@@ -172,6 +178,7 @@ module _ {D : Type 0} (state : D → DiskState) (ops : List Op) (now : ℕ) (old
     left = left_behind ticks.before (store ticks.before (plain_ops ops) now) old mid ticks.left;
     shown_stays = inl ticks.shown_stays;
     in_doubt = λ is. ticks.in_doubt (again why Fault is);
+    memory = λ is. ticks.memory (again why Memory is);
     unwritten = λ is. ticks.writes_none;
     part = part_weaker state (HoldsAmong old.asked (known old) (stored old) ticks.before) (HoldsAmong old.asked (known old) (stored old) (store ticks.before (plain_ops ops) now)) old mid
         (among_others old.asked (known old) (stored old) (store ticks.before (plain_ops ops) now) ticks.before ticks.settled.either) ticks.part;
@@ -225,6 +232,7 @@ module _ {D : Type 0} (state : D → DiskState) (ops : List Op) (now : ℕ) (old
           left = tt;
           shown_stays = tt;
           in_doubt = λ is none. absurd cc;
+          memory = λ is. absurd cc;
           unwritten = unwritten (Ok tt) follows;
           part = part (Ok tt) follows;
           cause = blamed_as _ _ (Ok tt) (Ok receipt)
@@ -254,6 +262,7 @@ module _ {D : Type 0} (state : D → DiskState) (ops : List Op) (now : ℕ) (old
       left = inr follows.left;
       shown_stays = inr follows.shown_stays;
       in_doubt = λ is. follows.in_doubt (again why Fault is);
+      memory = λ is. follows.memory (again why Memory is);
       unwritten = unwritten (Err why) follows;
       part = part (Err why) follows;
       cause = blamed_as _ _ (Err why) (Err why) (blamed_then _ _ _ (Ok tt) (Err why) ticks.cause (ok_none tt Fault) follows.cause) (again why Fault) (back why Fault);

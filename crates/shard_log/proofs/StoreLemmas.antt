@@ -30,7 +30,7 @@ use Rattle.group_plan.specs.Plan as plan
 use Rattle.group_plan.specs.Planning.{IsSpelled, IsStored}
 use Rattle.group_plan.specs.PlanLaws.{nothing_kept, plan_stands}
 use Rattle.shard_disks.specs.Images.{faults_of}
-use Rattle.shard_disks.specs.Outline.{Reads}
+use Rattle.shard_disks.specs.Outline.{Outline, Reads}
 use Rattle.shard_disks.specs.PlainDisks.{all_disks}
 use Rattle.shard_reading.specs.Held.{HoldsEither}
 use Rattle.shard_log.specs.Appending.{Follows, IsLeftBehind, IsShown, Stores, is_written}
@@ -75,6 +75,7 @@ module _ {D : Type 0} (state : D → DiskState) (old : PlainShardLog D) (rests :
     left = left_old after;
     shown_stays = refl;
     in_doubt = λ is none. absurd cc;
+    memory = λ is. rests.rests;
     part = part_none state (HoldsEither old.asked (shown old) after) old old refl refl refl refl;
     cause = blamed_none _ _ (Err Memory) refl (err_none Memory Fault (λ e. absurd cc));
   }
@@ -109,6 +110,7 @@ module _ {D : Type 0} (state : D → DiskState) (old : PlainShardLog D) (rests :
       left = inl (known_mid, inl stored_mid);
       shown_stays = shown_mid;
       in_doubt = λ is none. absurd cc;
+      memory = λ is. ap (λ (o : Outline). o.doubted) room.outline_stays ∙ rests.rests;
       part = part_mid (HoldsEither old.asked (shown old) after);
       cause = blamed_none _ _ (Err Memory) (ap (faults_of state) room.disks) (err_none Memory Fault (λ e. absurd cc));
     }
@@ -144,6 +146,7 @@ module _ {D : Type 0} (state : D → DiskState) (old : PlainShardLog D) (rests :
             left = inl (ap (λ d. known_by d (shown between) (stored between)) writes.in_doubt ∙ shown_between (Err why) writes, inr (stored_between (Err why) writes));
             shown_stays = shown_between (Err why) writes;
             in_doubt = λ is none. absurd (still_open writes.in_doubt none);
+            memory = λ is. let no : why ≡ Memory = cc in let fault_memory : Fault ≡ Memory = sym fault ∙ no in absurd cc;
             part = behind (Err why) writes;
             cause = blamed (Err why) writes;
           }
@@ -159,6 +162,7 @@ module _ {D : Type 0} (state : D → DiskState) (old : PlainShardLog D) (rests :
             left = left result shows.memory;
             shown_stays = stays result shows.memory;
             in_doubt = λ is. absurd (others.2 is);
+            memory = λ is. ap (λ (s : PlainShardLog D). s.disks.doubted) shows.stays ∙ writes.rests;
             part = part_and state (HoldsEither old.asked (shown old) after) old between new (behind (Ok tt) writes)
                 (part_none state (HoldsEither old.asked (shown old) after) between new (ap (λ (s : PlainShardLog D). s.asked) shows.stays) shows.cuts
                 (ap (λ (s : PlainShardLog D). all_disks s.disks) shows.stays) (ap (λ (s : PlainShardLog D). s.disks.past) shows.stays));
@@ -251,6 +255,7 @@ module _ {D : Type 0} (state : D → DiskState) (old : PlainShardLog D) (rests :
     left = tt;
     shown_stays = tt;
     in_doubt = λ is none. absurd cc;
+    memory = λ is. rests.rests;
     unwritten = λ e. refl;
     part = same;
     cause = blamed_none _ _ (Ok tt) refl (ok_none tt Fault);
@@ -268,6 +273,7 @@ module _ {D : Type 0} (state : D → DiskState) (old : PlainShardLog D) (rests :
     left = left_old state old rests behind_group;
     shown_stays = refl;
     in_doubt = λ is none. absurd cc;
+    memory = λ is. rests.rests;
     unwritten = λ e. refl;
     part = same;
     cause = blamed_none _ _ (Err Full) refl (err_none Full Fault (λ e. absurd cc));
@@ -285,6 +291,7 @@ module _ {D : Type 0} (state : D → DiskState) (old : PlainShardLog D) (rests :
     left = left_old state old rests behind_group;
     shown_stays = refl;
     in_doubt = λ is none. absurd cc;
+    memory = λ is. rests.rests;
     unwritten = λ e. refl;
     part = same;
     cause = blamed_none _ _ (Err AwaitFull) refl (err_none AwaitFull Fault (λ e. absurd cc));
@@ -302,6 +309,7 @@ module _ {D : Type 0} (state : D → DiskState) (old : PlainShardLog D) (rests :
     left = left_old state old rests behind_group;
     shown_stays = refl;
     in_doubt = λ is none. absurd cc;
+    memory = λ is. rests.rests;
     unwritten = λ e. refl;
     part = same;
     cause = blamed_none _ _ (Err Memory) refl (err_none Memory Fault (λ e. absurd cc));
@@ -320,6 +328,7 @@ module _ {D : Type 0} (state : D → DiskState) (old : PlainShardLog D) (rests :
     left = subst (λ (l : ShardList). OnErr result (IsLeftBehind (shown old) l new)) absorbed stores.left;
     shown_stays = stores.shown_stays;
     in_doubt = stores.in_doubt;
+    memory = stores.memory;
     unwritten = λ e. let no : true ≡ false = sym (ap is_written is) ∙ e in absurd cc;
     part = subst (λ (l : ShardList). IsPart state (HoldsEither old.asked (shown old) l) old new) absorbed stores.part;
     cause = stores.cause;

@@ -4,7 +4,7 @@ use Rattle.outside.specs.DiskModel.{DiskState, IsArmed}
 use Rattle.shard_terms.specs.ShardList.{ShardList, next_of}
 use Rattle.shard_terms.specs.Storing.{store}
 use Rattle.shard_index.specs.declared.refused.AppendRefused.{AppendRefused}
-use Rattle.shard_index.specs.declared.refused.AppendRefused.TheVariants.{AwaitFull, Fault, Full}
+use Rattle.shard_index.specs.declared.refused.AppendRefused.TheVariants.{AwaitFull, Fault, Full, Memory}
 use Rattle.shard_index.specs.KeptIndex.{ToldReceipt}
 use Rattle.record_codec.specs.declared.group.Op.{Op}
 use Rattle.record_codec.specs.Records.{plain_ops}
@@ -50,6 +50,7 @@ pub record Stores {D : Type 0} (state : D → DiskState) (after : ShardList) (ol
   pub left : OnErr result (IsLeftBehind (shown old) after new)
   pub shown_stays : OnErr result (shown new ≡ shown old)
   pub in_doubt : result ≡ Err Fault → new.disks.doubted ≡ None → ⊥
+  pub memory : result ≡ Err Memory → new.disks.doubted ≡ None
   pub part : IsPart state (HoldsEither old.asked (shown old) after) old new
   pub cause : IsBlamed (faults_of state (all_disks old.disks)) (faults_of state (all_disks new.disks)) result
 
@@ -65,6 +66,7 @@ pub record Follows {D : Type 0} (state : D → DiskState) (plan : Planned) (afte
   pub left : OnErr result (IsLeftBehind (shown old) after new)
   pub shown_stays : OnErr result (shown new ≡ shown old)
   pub in_doubt : result ≡ Err Fault → new.disks.doubted ≡ None → ⊥
+  pub memory : result ≡ Err Memory → new.disks.doubted ≡ None
   pub unwritten : is_written plan ≡ false → all_disks new.disks ≡ all_disks old.disks
   pub part : IsPart state (HoldsEither old.asked (shown old) after) old new
   pub cause : IsBlamed (faults_of state (all_disks old.disks)) (faults_of state (all_disks new.disks)) result
@@ -89,6 +91,7 @@ pub record Appends {D : Type 0} (state : D → DiskState) (ops : List Op) (now :
   pub left : OnErr result (IsLeft before (store before (plain_ops ops) now) old new)
   pub shown_stays : OnErr result ((shown new ≡ shown old) ⊎ (shown new ≡ before))
   pub in_doubt : result ≡ Err Fault → new.disks.doubted ≡ None → ⊥
+  pub memory : result ≡ Err Memory → new.disks.doubted ≡ None
   pub unwritten : is_written (planned before ops now) ≡ false → WriteNone state (all_disks old.disks) (all_disks new.disks)
   pub part : IsPart state (HoldsAmong old.asked (known old) (stored old) (store before (plain_ops ops) now)) old new
   pub cause : IsBlamed (faults_of state (all_disks old.disks)) (faults_of state (all_disks new.disks)) result
@@ -104,6 +107,7 @@ pub record Ticks {D : Type 0} (state : D → DiskState) (old new : PlainShardLog
   pub left : OnErr result (IsLeft before before old new)
   pub shown_stays : OnErr result (shown new ≡ shown old)
   pub in_doubt : result ≡ Err Fault → new.disks.doubted ≡ None → ⊥
+  pub memory : result ≡ Err Memory → new.disks.doubted ≡ None
   pub writes_none : WriteNone state (all_disks old.disks) (all_disks new.disks)
   pub part : IsPart state (HoldsAmong old.asked (known old) (stored old) before) old new
   pub cause : IsBlamed (faults_of state (all_disks old.disks)) (faults_of state (all_disks new.disks)) result

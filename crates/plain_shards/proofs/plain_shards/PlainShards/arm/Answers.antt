@@ -12,5 +12,5 @@ pub returns-clause-seen : goal.returns-clause-seen
 returns-clause-seen g c =
     rw (← c.self.view_is)
     (ap (λ (vs : List ShardView). record { shards = vs; misses = 0; views_again = true })
-    (moved_views (λ (old new : PlainShardLog g.row.D.Denot). Arms g.D.Disk.state (g.D.Disk.arms_at c.args.call) c.args.disk old new c.arm_at.result) c.args.shard c.self.inside.logs.items c.arm_at.new.logs.items
+    (moved_views (λ (old new : PlainShardLog g.row.D.Denot). Arms g.D.Disk.state (g.D.Disk.arms_at c.args.call) c.args.disk old new c.arm_at.result) _ c.self.inside.logs.items c.arm_at.new.logs.items
     (λ old new arms. ap (λ (s : PlainShardLog g.row.D.Denot). s.index) arms.stays) c.arm_at.ensures.moved c.self.inside.in_view))
