@@ -8,8 +8,9 @@ missing. It ends with 1 where one is.
 A promise is a heading `### ..` with four items: `- call:`, `- definition:`, `- edits:` and `- tests:`. An item goes on over
 lines that are indented. What it names stands in backticks:
 
-- a call is FILE::FUNCTION, or FILE::TYPE::FUNCTION for a method. It is public. Behind it stand `clauses` and their names,
-  or `its one clause`, which is a single `ensures` without a name.
+- a call is FILE::FUNCTION, or FILE::TYPE::FUNCTION for a method. It is public. Where it has a `requires` with a name, `asks`
+  and all these names stand behind it. Then stand `clauses` and their names, or `its one clause`, which is a single `ensures`
+  without a name.
 - a definition is FILE::NAME, or FILE::RECORD.FIELD. Behind a record may stand `fields` and their names. In a file of code
   it is a trait, whose fields are its ghost members.
 - an edit is a file of a crate's must-fail folder. Each edit of each crate has to be named.
@@ -31,6 +32,7 @@ PROMISES = "docs/PROMISES.md"
 PAGES = ["README.md", "CONTRIBUTING.md", *sorted(glob.glob("docs/*.md"))]
 ITEM = re.compile(r"^- (call|definition|edits|tests): (.*(?:\n  .*)*)", re.M)
 BEHIND = re.compile(r"\b(?:clauses?|fields?)\b")
+ASKS = re.compile(r"\basks?\b")
 QUOTED = re.compile(r"`([^`\n]+)`")
 PATH = re.compile(r"`((?:crates|docs|bench|examples)/[^`\s]*)`")
 LINK = re.compile(r"(?:\]\(|^\[[^\]]+\]: )([^)\s#]*)#([^)\s]+)", re.M)
@@ -126,7 +128,12 @@ def is_test(lines, at):
 
 
 def has_clause(text, clause):
-    return bool(re.search(rf"^\s*(?:ensures|requires) {re.escape(clause)} \{{", text, re.M))
+    return bool(re.search(rf"^\s*ensures {re.escape(clause)} \{{", text, re.M))
+
+
+def asked_in(text):
+    """The names of what a function asks for, in order."""
+    return re.findall(r"^\s*requires (\w+) \{", text, re.M)
 
 
 def has_one_clause(text):
@@ -177,7 +184,7 @@ def groups(body, line):
     for group in body.split(";"):
         split = BEHIND.search(group)
         head, tail = (group[: split.start()], group[split.end() :]) if split else (group, "")
-        names = []
+        head, names = ASKS.split(head)[0], []
         for found in QUOTED.finditer(head):
             before = in_full(found.group(1), before)
             names.append((before, line + line_at(head, found.start()) - 1))
@@ -193,6 +200,8 @@ def look_at_call(report, place, name, clauses, group):
     lines = lines_of(name.split("::")[0])
     text = header(lines, found[0])
     report.look(place, f"{name} isn't public", is_public(lines, found[0]))
+    told = QUOTED.findall("".join(ASKS.split(BEHIND.split(group)[0])[1:]))
+    report.look(place, f"{name} asks for {', '.join(asked_in(text)) or 'nothing with a name'}", told == asked_in(text))
     for clause in clauses:
         report.look(place, f"{name} has no clause {clause}", has_clause(text, clause))
     if not clauses:
