@@ -3,7 +3,7 @@ use Rattle.std.proofs.Common.{◌≡◌, ◌⊎◌, inl, inr, ℕ, zero, suc, �
 use Rattle.std.specs.Prelude.{Vec}
 use Rattle.std.proofs.lemmas.List.{length-map}
 use Rattle.std.specs.declared.alloc.Global.{Global}
-use Rattle.outside.specs.Along.{keeps_and, keeps_weaker}
+use Rattle.outside.specs.Along.{keeps_weaker}
 use Rattle.outside.specs.DiskModel.{DiskState}
 use Rattle.outside.specs.Torn.{torn_same}
 use Rattle.gated_log.specs.PlainLog.{AtRest, end_of}
@@ -37,7 +37,7 @@ use Rattle.shard_reading.specs.declared.unread.Unread.TheVariants as unread
 use Rattle.shard_reading.specs.Giving.{IsCause, IsWhy, unread_of}
 use Rattle.shard_reading.specs.Held.{IsOpeningTorn, begins, disk_place, held_in, with_opening}
 use Rattle.shard_reading.specs.Reading.{ReadsShard}
-use Rattle.shard_log.specs.Mounting.{AreMountedFrom, IsMountBlamed, IsRefusal, Mounts, Refuses, disk_number, held_at, refusal_of}
+use Rattle.shard_log.specs.Mounting.{HoldAsBefore, HoldList, IsMountBlamed, IsRefusal, Mounts, Refuses, disk_number, held_at, refusal_of}
 use Rattle.shard_log.specs.PlainShardLog.{IsDoubtOf, IsShardLog, PlainShardLog, end_after, end_with, known_by}
 use Rattle.shard_log.proofs.ListLemmas.{each_at}
 use Rattle.shard_log.proofs.PartLemmas.{tell_kept}
@@ -59,8 +59,8 @@ module _ {D : Type 0} (state : D → DiskState) (disks : List D) (asked : Asked)
   begins_mid : IsTrue (tell_all state disks) → begins asked (reads_of (outline mid)) ≡ begins asked (with_first (first_manifest asked) found)
   begins_mid told = ap (begins asked) (mounts.list told)
 
-  before_holds : (images : List (List ℕ)) → ReadsAsBefore state disks (first_manifest asked) images → (held : Folded ShardList) → AreMountedFrom state disks asked held images
-  before_holds images before held = inl (before.before, before.left, by before.reads)
+  before_holds : (images : List (List ℕ)) → ReadsAsBefore state disks (first_manifest asked) images → HoldAsBefore state disks asked images
+  before_holds images before = record { before = before.before; left = before.left; held = by before.reads }
     where
       by : (reads_in images ≡ reads_in before.before) ⊎ (reads_in images ≡ with_first (first_manifest asked) (reads_in before.before)) → held_at asked images ≡ held_at asked before.before
       by (inl same) = ap (held_in asked) same
@@ -82,12 +82,15 @@ module _ {D : Type 0} (state : D → DiskState) (disks : List D) (asked : Asked)
       shows = record { rests = reads.rests; none = refl };
       asked_kept = refl;
       images = λ told images left. inl (ap (held_in asked) (reads.images (told_back told) images left) ∙ held_new (told_back told));
-      any_moment = λ told.
-          keeps_and (WithinAll state) (AreMountedFrom state disks asked (Holds (list_of index))) [] disks mid.past (all_disks mid) new.past (all_disks new)
-          (keeps_weaker (WithinAll state) (ReadsAsBefore state disks (first_manifest asked)) (AreMountedFrom state disks asked (Holds (list_of index))) [] disks mid.past (all_disks mid)
-          (λ images before. before_holds images before (Holds (list_of index))) (mounts.any_moment told))
-          (keeps_weaker (WithinAll state) (λ images. held_in asked (reads_in images) ≡ held_in asked (reads_of (outline mid))) (AreMountedFrom state disks asked (Holds (list_of index))) mid.past (all_disks mid) new.past (all_disks new)
-          (λ images same. inr (same ∙ reads.exact (told_mid told))) (reads.any_moment (told_mid told)));
+      moments = λ told. record {
+        mounted = all_disks mid;
+        between = mid.past;
+        bytes = mounts.bytes told;
+        until = keeps_weaker (WithinAll state) (ReadsAsBefore state disks (first_manifest asked)) (HoldAsBefore state disks asked) [] disks mid.past (all_disks mid) before_holds (mounts.any_moment told);
+        there = λ images left. ap (held_in asked) (mounts.images told images left) ∙ reads.exact (told_mid told);
+        onwards = keeps_weaker (WithinAll state) (λ images. held_in asked (reads_in images) ≡ held_in asked (reads_of (outline mid))) (HoldList asked (list_of index)) mid.past (all_disks mid) new.past (all_disks new)
+            (λ images same. same ∙ reads.exact (told_mid told)) (reads.any_moment (told_mid told));
+      };
       bytes = λ told.
           reads.bytes (told_mid told)
           ∙ (ap (λ b. with_opening b (seen_of state (all_disks mid))) (begins_mid told)

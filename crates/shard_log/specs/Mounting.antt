@@ -60,10 +60,26 @@ IsMountBlamed asked (Differs what kept wanted) before now = now ≡ before
 IsMountBlamed asked (Behind client shard position next) before now = now ≡ before
 IsMountBlamed asked Memory before now = now ≡ before
 
--- ten images hold what those of one moment at the start of a mount held, or what the mount found
-abbrev pub AreMountedFrom : {D : Type 0} → (D → DiskState) → List D → Asked → Folded ShardList → List (List ℕ) → Type 0
-AreMountedFrom state disks asked held images =
-    ((before : List (List ℕ)) × MayLeaveAll state disks before × (held_at asked images ≡ held_at asked before)) ⊎ (held_at asked images ≡ held)
+-- ten images hold what a crash at the start of a mount might have left
+pub record HoldAsBefore {D : Type 0} (state : D → DiskState) (disks : List D) (asked : Asked) (images : List (List ℕ)) : Type 0 where
+  pub before : List (List ℕ)
+  pub left : MayLeaveAll state disks before
+  pub held : held_at asked images ≡ held_at asked before
+
+-- ten images hold the list
+abbrev pub HoldList : Asked → ShardList → List (List ℕ) → Type 0
+HoldList asked list images = held_at asked images ≡ Holds list
+
+-- The moments of a mount of these disks, which ended with this history and these ones. At one of them all ten logs were mounted, so that each disk was
+-- synced: a closed gate stands behind its records, and the manifest's first snapshot is there. Up to then ten images hold what some held at the start;
+-- from then on each ten hold the list.
+pub record MountMoments {D : Type 0} (state : D → DiskState) (disks : List D) (asked : Asked) (list : ShardList) (past : List (List D)) (now : List D) : Type 0 where
+  pub mounted : List D
+  pub between : List (List D)
+  pub bytes : seen_of state mounted ≡ mounted_bytes (first_manifest asked) (seen_of state disks)
+  pub until : Keeps (WithinAll state) (HoldAsBefore state disks asked) [] disks between mounted
+  pub there : (images : List (List ℕ)) → MayLeaveAll state mounted images → HoldList asked list images
+  pub onwards : Keeps (WithinAll state) (HoldList asked list) between mounted past now
 
 -- The bytes after a mount: the disks' gates are closed, and of a new shard the two first records are there.
 abbrev pub bytes_mounted : Asked → List (List ℕ) → List (List ℕ)
@@ -75,15 +91,14 @@ AreLeftTorn asked old new =
     AreMountTorn (first_manifest asked) old new
     ⊎ IsOpeningTorn (begins asked (with_first (first_manifest asked) (reads_in old))) (mounted_bytes (first_manifest asked) old) new
 
--- A mount gives the list that the disks' records hold, and each ten images hold it then. At each moment of it ten images hold what some held at its
--- start, or that list. It writes gates and first records, and nothing else.
+-- A mount gives the list that the disks' records hold, and each ten images hold it, from the moment on at which its ten logs are mounted. Before that ten
+-- images hold what some held at its start. It writes gates and first records, and nothing else.
 pub record Mounts {D : Type 0} (state : D → DiskState) (disks : List D) (asked : Asked) (new : PlainShardLog D) : Type 0 where
   pub holds : IsTrue (tell_all state disks) → held_at asked (seen_of state disks) ≡ Holds (shown new)
   pub shows : IsShown new
   pub asked_kept : new.asked ≡ asked
   pub images : ImagesHold state new (shown new) (shown new)
-  pub any_moment :
-      IsTrue (tell_all state disks) → Keeps (WithinAll state) (AreMountedFrom state disks asked (Holds (shown new))) [] disks new.disks.past (all_disks new.disks)
+  pub moments : IsTrue (tell_all state disks) → MountMoments state disks asked (shown new) new.disks.past (all_disks new.disks)
   pub bytes : IsTrue (tell_all state disks) → seen_of state (all_disks new.disks) ≡ bytes_mounted asked (seen_of state disks)
   pub kept : KeepsDisks state disks (all_disks new.disks)
   pub faults : faults_of state (all_disks new.disks) ≡ faults_of state disks
