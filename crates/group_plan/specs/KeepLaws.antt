@@ -9,8 +9,8 @@ use Rattle.shard_terms.specs.Storing.{Op as PlainOp, Store as PlainStore, Releas
 use Rattle.shard_index.specs.Group.{also_if as also_taken_if, op_for, ops_for}
 use Rattle.record_codec.specs.declared.group.Op.{Op}
 use Rattle.record_codec.specs.declared.group.Op.TheVariants.{Store, Release, Forget}
-use Rattle.record_codec.specs.Records.{plain_op, plain_ops, offsets_of}
-use Rattle.group_plan.specs.Plan.{also_if, index_op, written_op, written_ops}
+use Rattle.record_codec.specs.Records.{index_op, offsets_of, plain_op, plain_ops}
+use Rattle.group_plan.specs.Plan.{also_if, written_op, written_ops}
 use Rattle.group_plan.specs.Keeping.{acts_on, awaited_by, awaited_if, awaited_after, all_act, chosen, written_from}
 
 -- ---- one operation

@@ -6,8 +6,6 @@ use Rattle.topic_name.specs.KeptMessage.{KeptMessage}
 use Rattle.shard_terms.specs.ShardList.{ShardList, next_of}
 use Rattle.shard_terms.specs.Storing.{Op as PlainOp, acts, act_if, kept_ops, placed}
 use Rattle.shard_terms.specs.Capacity.{awaits_too_many, has_stores, needs_a_cut, passes_the_last}
-use Rattle.shard_index.specs.declared.op.IndexOp.{IndexOp}
-use Rattle.shard_index.specs.declared.op.IndexOp.TheVariants as index
 use Rattle.shard_index.specs.Absorbing.{limits}
 use Rattle.session_codec.specs.HasSpelling.{fits_u16}
 use Rattle.record_codec.specs.declared.group.Op.{Op}
@@ -67,14 +65,6 @@ planned_by list ops (op ∷ kept) now =
 
 abbrev pub planned : ShardList → List Op → ℕ → Planned
 planned list ops now = planned_by list ops (kept_ops list (plain_ops ops)) now
-
--- ---- for the index
-
--- an operation of a record as an index takes it
-abbrev pub index_op : Op → IndexOp
-index_op (Store m) = index.Add m
-index_op (Release publisher incarnation id) = index.Release (record { publisher = publisher; incarnation = incarnation; id = id })
-index_op (Forget publisher incarnation) = index.Forget (record { name = publisher; incarnation = incarnation })
 
 -- ---- what each operation of a group has
 

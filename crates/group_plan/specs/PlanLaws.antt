@@ -14,8 +14,8 @@ use Rattle.shard_index.specs.Group.{HasRoom, ops_for}
 use Rattle.shard_index.specs.GroupLaws.{group_absorbed}
 use Rattle.shard_index.specs.Sound.{newest_bytes}
 use Rattle.record_codec.specs.declared.group.Op.{Op}
-use Rattle.record_codec.specs.Records.{KeptGroup, plain_op, plain_ops}
-use Rattle.group_plan.specs.Plan.{Planned, KeepsNothing, IsFull, AwaitsTooMany, Stores, index_op, lacks_room, planned, planned_by, written, written_ops}
+use Rattle.record_codec.specs.Records.{KeptGroup, index_op, plain_op, plain_ops}
+use Rattle.group_plan.specs.Plan.{Planned, KeepsNothing, IsFull, AwaitsTooMany, Stores, lacks_room, planned, planned_by, written, written_ops}
 use Rattle.group_plan.specs.Keeping.{awaited_after, chosen}
 use Rattle.group_plan.specs.Room.{takes_more}
 use Rattle.group_plan.specs.KeepLaws.{chosen_act, chosen_kept, chosen_written, index_written, stored_awaited}

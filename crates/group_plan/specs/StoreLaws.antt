@@ -9,13 +9,13 @@ use Rattle.shard_terms.specs.Capacity.{store_size}
 use Rattle.shard_index.specs.Sound.{newest_bytes}
 use Rattle.record_codec.specs.declared.formats.TheConstants.{MOST_OPERATIONS}
 use Rattle.record_codec.specs.declared.group.Op.{Op}
-use Rattle.record_codec.specs.Records.{KeptGroup, messages_of, offsets_of, plain_ops}
+use Rattle.record_codec.specs.Records.{KeptGroup, index_op, messages_of, offsets_of, plain_ops}
 use Rattle.record_codec.specs.Spelling.{spelled_group}
 use Rattle.record_codec.specs.HasSpelling.{group_has_spelling}
 use Rattle.record_codec.specs.Sizes.{stores_size}
 use Rattle.record_codec.specs.SizeLaws.{stores_counted}
 use Rattle.group_plan.specs.declared.outcome.Stored.{Stored}
-use Rattle.group_plan.specs.Plan.{Stores, fits_op_alone, fit_alone, index_op, lacks_room, planned, written, written_at}
+use Rattle.group_plan.specs.Plan.{Stores, fits_op_alone, fit_alone, lacks_room, planned, written, written_at}
 use Rattle.group_plan.specs.Keeping.{chosen, written_from}
 use Rattle.group_plan.specs.KeepLaws.{chosen_all, chosen_few, chosen_written, index_written}
 use Rattle.group_plan.specs.RoomLaws.{CanBeWritten, can_be_written, group_short, stores_more, written_group}

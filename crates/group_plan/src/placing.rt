@@ -1,9 +1,9 @@
 // Operations as they are written, and as an index takes them. Payloads and properties are shared.
 ghost use Rattle.std.specs.Prelude.{◌≡◌, ◌<◌, ◌+◌, map, IsTrue, IfOk};
 ghost use Rattle.shard_terms.specs.Storing.{placed};
-ghost use Rattle.record_codec.specs.Records.{offsets_of};
+ghost use Rattle.record_codec.specs.Records.{index_op, offsets_of};
 ghost use Rattle.record_codec.specs.Spelling.{spelled_group};
-ghost use Rattle.group_plan.specs.Plan.{fits_op_alone, index_op, written_at};
+ghost use Rattle.group_plan.specs.Plan.{fits_op_alone, written_at};
 ghost use Rattle.group_plan.specs.Keeping.{written_from};
 ghost use Rattle.group_plan.specs.RoomLaws.{CanBeWritten, written_group};
 
@@ -100,37 +100,12 @@ fn written_from(alloc: Global, kept: &[&Op], first: u64, now: u64) -> Result<Vec
     Ok(ops)
 }
 
-// An operation as an index takes it.
-fn index_op(op: Op) -> IndexOp
-    ensures { result ≡ index_op op }
-{
-    match op {
-        Op::Store(message) => IndexOp::Add(message),
-        Op::Release {
-            publisher,
-            incarnation,
-            id,
-        } => IndexOp::Release(Awaited {
-            publisher,
-            incarnation,
-            id,
-        }),
-        Op::Forget {
-            publisher,
-            incarnation,
-        } => IndexOp::Forget(Publisher {
-            name: publisher,
-            incarnation,
-        }),
-    }
-}
-
 fn index_ops(alloc: Global, ops: Vec<Op>) -> Result<Vec<IndexOp>, AllocError>
     ensures { IfOk result (λ taken. taken.items ≡ map index_op ops.items) }
 {
     let mut taken = Vec::new(alloc);
     for op in ops {
-        taken.push(index_op(op))?;
+        taken.push(op.into_index())?;
     }
     Ok(taken)
 }

@@ -4,6 +4,8 @@ use Rattle.topic_name.specs.declared.descriptor.Descriptor.{Descriptor}
 use Rattle.shard_terms.specs.ShardList.{Awaited}
 use Rattle.topic_terms.specs.StoredMessage.{StoredMessage}
 use Rattle.shard_terms.specs.Storing.{Op as PlainOp, stores_of, Store as PlainStore, Release as PlainRelease, Forget as PlainForget}
+use Rattle.shard_index.specs.declared.op.IndexOp.{IndexOp}
+use Rattle.shard_index.specs.declared.op.IndexOp.TheVariants as index
 use Rattle.record_codec.specs.declared.group.Op.{Op}
 use Rattle.record_codec.specs.declared.group.Op.TheVariants.{Store, Release, Forget}
 
@@ -33,6 +35,15 @@ plain_op (Forget publisher incarnation) = PlainForget publisher incarnation
 
 abbrev pub plain_ops : List Op → List PlainOp
 plain_ops ops = map plain_op ops
+
+-- an operation of a record as an index takes it
+abbrev pub index_op : Op → IndexOp
+index_op (Store m) = index.Add m
+index_op (Release publisher incarnation id) = index.Release (record { publisher = publisher; incarnation = incarnation; id = id })
+index_op (Forget publisher incarnation) = index.Forget (record { name = publisher; incarnation = incarnation })
+
+abbrev pub index_ops : List Op → List IndexOp
+index_ops ops = map index_op ops
 
 -- the messages that operations store
 abbrev pub messages_of : List Op → List StoredMessage

@@ -1,3 +1,7 @@
+ghost use Rattle.std.specs.Prelude.{◌≡◌};
+ghost use Rattle.record_codec.specs.Records.{index_op};
+
+use shard_index::{Awaited, IndexOp, Publisher};
 use std::marker::Model;
 use topic_name::{Message, Name};
 
@@ -22,6 +26,33 @@ pub enum Op {
         /// The number of its session.
         incarnation: u64,
     },
+}
+
+impl Op {
+    /// What it does to an index.
+    pub fn into_index(self) -> IndexOp
+        ensures { result ≡ index_op self }
+    {
+        match self {
+            Op::Store(message) => IndexOp::Add(message),
+            Op::Release {
+                publisher,
+                incarnation,
+                id,
+            } => IndexOp::Release(Awaited {
+                publisher,
+                incarnation,
+                id,
+            }),
+            Op::Forget {
+                publisher,
+                incarnation,
+            } => IndexOp::Forget(Publisher {
+                name: publisher,
+                incarnation,
+            }),
+        }
+    }
 }
 
 /// Operations that are stored together. Contracts see `KeptGroup`.

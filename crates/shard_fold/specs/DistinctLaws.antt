@@ -13,9 +13,9 @@ use Rattle.shard_terms.specs.ShardList.{Awaited, ShardList}
 use Rattle.shard_terms.specs.Storing.{Store as PlainStore, act_if, acts, awaits, becomes_awaited, is_awaited_as, is_of, triple_of}
 use Rattle.shard_index.specs.Absorbing.{absorbed, absorbed_all, has_place, may_add}
 use Rattle.shard_index.specs.Triples.{are_distinct, are_new_behind, same_triple, same_triple_is, same_triple_itself}
+use Rattle.record_codec.specs.Records.{index_op, index_ops}
 use Rattle.record_codec.specs.declared.group.Op.{Op}
 use Rattle.record_codec.specs.declared.group.Op.TheVariants.{Store, Release, Forget}
-use Rattle.shard_fold.specs.Fold.{index_op, index_ops}
 
 -- no two are the same
 abbrev pub AreApart : List Awaited → Type 0

@@ -1,5 +1,5 @@
 -- What the records of a shard's disks hold: its list, or why they hold none.
-use Rattle.std.specs.Prelude.{ℕ, ◌+◌, ◌==◌, ◌&&◌, not, is_none, is_some, nat_le, nat_lt, Bool, true, false, if◌then◌else◌, List, [], ◌∷◌, length, map, slice_get, slice_index_or, Option, Some, None}
+use Rattle.std.specs.Prelude.{ℕ, ◌+◌, ◌==◌, ◌&&◌, not, is_none, is_some, nat_le, nat_lt, Bool, true, false, if◌then◌else◌, List, [], ◌∷◌, length, slice_get, slice_index_or, Option, Some, None}
 use Rattle.std.specs.List.{list_all, list_any}
 use Rattle.topic_terms.specs.Profile.{whole}
 use Rattle.topic_terms.specs.Limits.{lies_between}
@@ -7,15 +7,11 @@ use Rattle.topic_name.specs.declared.descriptor.Descriptor.{Descriptor}
 use Rattle.topic_name.specs.declared.mounting.What.{What}
 use Rattle.topic_name.specs.declared.mounting.What.TheVariants.{Format, Shards, Workers, Number}
 use Rattle.shard_terms.specs.ShardList.{Cut, Awaited, ShardList, next_of}
-use Rattle.shard_index.specs.declared.op.IndexOp.{IndexOp}
-use Rattle.shard_index.specs.declared.op.IndexOp.TheVariants as index
 use Rattle.shard_index.specs.KeptIndex.{cut_of}
 use Rattle.shard_index.specs.Triples.{are_distinct, same_triple}
 use Rattle.shard_index.specs.Absorbing.{absorbed_all, all_stand, begun}
 use Rattle.record_codec.specs.declared.formats.TheConstants.{MANIFEST_FORMAT}
-use Rattle.record_codec.specs.declared.group.Op.{Op}
-use Rattle.record_codec.specs.declared.group.Op.TheVariants.{Store, Release, Forget}
-use Rattle.record_codec.specs.Records.{KeptGroup, KeptOpening, KeptManifest}
+use Rattle.record_codec.specs.Records.{KeptGroup, KeptManifest, KeptOpening, index_ops}
 use Rattle.record_codec.specs.Spelling.{spelled_manifest, spelled_opening}
 use Rattle.record_codec.specs.Reading.{group_in, manifest_in, opening_in}
 use Rattle.pair_log.specs.Epochs.{snapshot_of}
@@ -136,15 +132,6 @@ abbrev pub records_of : List (List (List ℕ)) → List Descriptor → ℕ → L
 records_of slots cuts slot = or_opening (is_new cuts) (slice_index_or slots slot [])
 
 -- ---- groups
-
--- an operation of a record as an index takes it
-abbrev pub index_op : Op → IndexOp
-index_op (Store m) = index.Add m
-index_op (Release publisher incarnation id) = index.Release (record { publisher = publisher; incarnation = incarnation; id = id })
-index_op (Forget publisher incarnation) = index.Forget (record { name = publisher; incarnation = incarnation })
-
-abbrev pub index_ops : List Op → List IndexOp
-index_ops ops = map index_op ops
 
 -- Its first offset is the next one, each operation can stand, and not too many identifiers are awaited then.
 abbrev pub goes_on : ShardList → KeptGroup → Bool

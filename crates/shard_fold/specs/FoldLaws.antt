@@ -10,7 +10,7 @@ use Rattle.topic_name.specs.declared.descriptor.Descriptor.{Descriptor}
 use Rattle.topic_name.specs.PlainConfig.{plain_config}
 use Rattle.shard_terms.specs.ShardList.{ShardList, next_of, opening_list}
 use Rattle.shard_index.specs.Absorbing.{absorbed_all, all_stand}
-use Rattle.record_codec.specs.Records.{KeptGroup, KeptOpening}
+use Rattle.record_codec.specs.Records.{KeptGroup, KeptOpening, index_ops}
 use Rattle.record_codec.specs.Spelling.{spelled_group}
 use Rattle.record_codec.specs.HasSpelling.{group_has_spelling}
 use Rattle.record_codec.specs.Reading.{group_in, opening_in}
@@ -20,7 +20,7 @@ use Rattle.gated_log.specs.PlainLog.{end_of}
 use Rattle.pair_log.specs.Mounted.{or_first}
 use Rattle.shard_fold.specs.declared.asked.Asked.{Asked}
 use Rattle.shard_fold.specs.declared.unread.Where.TheVariants.{Slot}
-use Rattle.shard_fold.specs.Fold.{Folded, Holds, IsDamaged, HasAnother, all_told, and_then, are_in_row, are_sound_cuts, cuts_told, first_cut, first_manifest, first_opening, folded, generation_told, goes_on, have_own_slots, index_ops, is_known_cut, is_new, later_all_told, later_told, oldest_told, opened, opened_behind, or_opening, records_of, with_group, with_record, with_records}
+use Rattle.shard_fold.specs.Fold.{Folded, Holds, IsDamaged, HasAnother, all_told, and_then, are_in_row, are_sound_cuts, cuts_told, first_cut, first_manifest, first_opening, folded, generation_told, goes_on, have_own_slots, is_known_cut, is_new, later_all_told, later_told, oldest_told, opened, opened_behind, or_opening, records_of, with_group, with_record, with_records}
 use Rattle.shard_fold.specs.Giving.{IsAsked}
 use Rattle.shard_fold.specs.ManifestLaws.{first_told, told_sound}
 

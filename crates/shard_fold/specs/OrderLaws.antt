@@ -16,12 +16,12 @@ use Rattle.shard_index.specs.GrowLaws.{absorbed_all_grows, absorbed_grows}
 use Rattle.shard_index.specs.Triples.{are_distinct, same_triple}
 use Rattle.record_codec.specs.declared.group.Op.{Op}
 use Rattle.record_codec.specs.declared.group.Op.TheVariants.{Store, Release, Forget}
-use Rattle.record_codec.specs.Records.{KeptGroup, KeptOpening}
+use Rattle.record_codec.specs.Records.{KeptGroup, KeptOpening, index_op, index_ops}
 use Rattle.record_codec.specs.Reading.{group_in, opening_in}
 use Rattle.pair_log.specs.Mounted.{or_first}
 use Rattle.shard_fold.specs.declared.asked.Asked.{Asked}
 use Rattle.shard_fold.specs.declared.unread.Where.TheVariants.{Slot}
-use Rattle.shard_fold.specs.Fold.{Folded, Holds, IsDamaged, HasAnother, all_told, and_then, are_in_row, begun_at, cuts_told, first_manifest, folded, generation_told, goes_before, goes_on, have_own_slots, index_op, index_ops, is_known_cut, is_opening_of, later_all_told, later_told, oldest_told, opened, opened_behind, opens, opens_behind, records_of, unsealed, with_group, with_record, with_records}
+use Rattle.shard_fold.specs.Fold.{Folded, Holds, IsDamaged, HasAnother, all_told, and_then, are_in_row, begun_at, cuts_told, first_manifest, folded, generation_told, goes_before, goes_on, have_own_slots, is_known_cut, is_opening_of, later_all_told, later_told, oldest_told, opened, opened_behind, opens, opens_behind, records_of, unsealed, with_group, with_record, with_records}
 use Rattle.shard_fold.specs.DistinctLaws.{AreApart, apart_distinct, ops_apart, tested_apart}
 use Rattle.shard_fold.specs.OpeningLaws.{may_begin_behind, pushed_newest}
 use Rattle.shard_fold.specs.ManifestLaws.{then_holds, told_sound}

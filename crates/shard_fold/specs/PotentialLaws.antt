@@ -19,7 +19,7 @@ use Rattle.shard_index.specs.SoundLaws.{bytes_more, fits_means, newest_more, tak
 use Rattle.record_codec.specs.declared.group.Op.{Op}
 use Rattle.record_codec.specs.declared.group.Op.TheVariants.{Store, Release, Forget}
 use Rattle.record_codec.specs.declared.formats.TheConstants.{MOST_OPERATIONS}
-use Rattle.record_codec.specs.Records.{KeptGroup, offsets_of}
+use Rattle.record_codec.specs.Records.{KeptGroup, index_op, index_ops, offsets_of}
 use Rattle.record_codec.specs.Spelling.{spelled_group}
 use Rattle.record_codec.specs.HasSpelling.{all_in_turn, fit_ops, fits_op, group_has_spelling, is_op_count}
 use Rattle.session_codec.specs.HasSpelling.{fits_u64}
@@ -28,7 +28,7 @@ use Rattle.record_codec.specs.SizeLaws.{group_sized}
 use Rattle.record_codec.specs.CountLaws.{group_told}
 use Rattle.record_codec.specs.Taking.{IsToldOp}
 use Rattle.record_codec.specs.Spells.{SpellsGroup}
-use Rattle.shard_fold.specs.Fold.{goes_on, index_op, index_ops}
+use Rattle.shard_fold.specs.Fold.{goes_on}
 use Rattle.shard_fold.specs.Potential.{awaited_share, message_share, potential}
 
 -- ---- what is taken away

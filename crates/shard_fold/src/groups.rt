@@ -3,40 +3,16 @@ ghost use Rattle.std.specs.Prelude.{◌≡◌, ◌+◌, ◌≤◌, length, Ok, t
 ghost use Rattle.shard_index.specs.Absorbing.{absorbed, absorbed_all, all_stand, kept_after, stands};
 ghost use Rattle.shard_index.specs.KeptIndex.{list_of};
 ghost use Rattle.record_codec.specs.Reading.{group_in};
-ghost use Rattle.shard_fold.specs.Fold.{goes_on, index_op, index_ops, with_group};
+ghost use Rattle.record_codec.specs.Records.{index_op, index_ops};
+ghost use Rattle.shard_fold.specs.Fold.{goes_on, with_group};
 ghost use Rattle.shard_fold.specs.Giving.{Gives};
 ghost use Rattle.shard_fold.specs.Potential.{potential};
 
 use crate::limits::MOST_AWAITED;
 use crate::unread::{Unread, Where};
 use record_codec::{CodecRefused, Group, Op, read_group};
-use shard_index::{Awaited, Index, IndexOp, Publisher};
+use shard_index::{Index, IndexOp};
 use std::alloc::{AllocError, Global};
-
-// An operation of a record as an index takes it.
-fn index_op(op: Op) -> IndexOp
-    ensures { result ≡ index_op op }
-{
-    match op {
-        Op::Store(message) => IndexOp::Add(message),
-        Op::Release {
-            publisher,
-            incarnation,
-            id,
-        } => IndexOp::Release(Awaited {
-            publisher,
-            incarnation,
-            id,
-        }),
-        Op::Forget {
-            publisher,
-            incarnation,
-        } => IndexOp::Forget(Publisher {
-            name: publisher,
-            incarnation,
-        }),
-    }
-}
 
 // Lets an operation act, and gives whether it can stand.
 fn absorb_op(op: &IndexOp, index: &mut Index) -> Result<bool, AllocError>
@@ -59,7 +35,7 @@ fn take_op(op: Op, index: &mut Index) -> Result<bool, AllocError>
         → list_of index.new ≡ absorbed (index_op op) (list_of index.old) }
     ensures cuts { result ≡ Ok true → index.new.cuts ≡ index.old.cuts }
 {
-    let op = index_op(op);
+    let op = op.into_index();
     let stands = absorb_op(&op, index);
     drop(op);
     stands

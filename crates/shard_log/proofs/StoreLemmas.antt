@@ -15,18 +15,16 @@ use Rattle.shard_index.specs.Absorbing.{absorbed_all, all_stand, are_of_group}
 use Rattle.shard_index.specs.Sound.{newest_bytes}
 use Rattle.record_codec.specs.declared.group.Op.{Op}
 use Rattle.record_codec.specs.declared.group.Op.TheVariants as op
-use Rattle.record_codec.specs.Records.{KeptGroup, plain_ops}
+use Rattle.record_codec.specs.Records.{KeptGroup, index_ops, plain_ops}
 use Rattle.record_codec.specs.Reading.{group_in}
 use Rattle.record_codec.specs.Spelling.{spelled_group}
 use Rattle.shard_fold.specs.declared.asked.Asked.{Asked}
-use Rattle.shard_fold.specs.Fold.{Holds, index_ops, with_group}
-use Rattle.shard_fold.specs.Fold as fold
+use Rattle.shard_fold.specs.Fold.{Holds, with_group}
 use Rattle.shard_fold.specs.FoldLaws.{group_is_taken}
 use Rattle.shard_fold.specs.Potential.{potential}
 use Rattle.shard_fold.specs.PotentialLaws.{group_takes}
 use Rattle.group_plan.specs.declared.outcome.Stored.{Stored}
 use Rattle.group_plan.specs.Plan.{AwaitsTooMany, IsFull, KeepsNothing, Planned, Stores as ToStore, lacks_room, planned, planned_by, written}
-use Rattle.group_plan.specs.Plan as plan
 use Rattle.group_plan.specs.Planning.{IsSpelled, IsStored}
 use Rattle.group_plan.specs.PlanLaws.{nothing_kept, plan_stands}
 use Rattle.shard_disks.specs.Images.{faults_of}
@@ -183,15 +181,6 @@ module _ {D : Type 0} (state : D → DiskState) (old : PlainShardLog D) (rests :
 
 -- ---- what a plan that stores tells
 
-same_op : (o : Op) → plan.index_op o ≡ fold.index_op o
-same_op (op.Store m) = refl
-same_op (op.Release publisher incarnation id) = refl
-same_op (op.Forget publisher incarnation) = refl
-
-same_ops : (ops : List Op) → map plan.index_op ops ≡ index_ops ops
-same_ops [] = refl
-same_ops (o ∷ ops) = (λ i. same_op o i ∷ same_ops ops i)
-
 of_group : (ops : List Op) → are_of_group (index_ops ops) ≡ true
 of_group [] = refl
 of_group (op.Store m ∷ ops) = of_group ops
@@ -204,9 +193,9 @@ pub to_store : (list : ShardList) (ops : List Op) (now : ℕ) (found : Stored) �
 to_store list ops now found is bytes stores spelled =
     let g : KeptGroup = written list ops now in
     let ready = plan_stands list ops now g is stores.group in
-    let own : found.ops.items ≡ index_ops g.ops = stores.ops_are ∙ (sym ready.operations ∙ same_ops g.ops) in
-    let stand : all_stand list (index_ops g.ops) ≡ true = subst (λ l. all_stand list l ≡ true) (sym ready.operations ∙ same_ops g.ops) ready.stand in
-    let absorbed : absorbed_all (index_ops g.ops) list ≡ store list (plain_ops ops) now = subst (λ l. absorbed_all l list ≡ store list (plain_ops ops) now) (sym ready.operations ∙ same_ops g.ops) ready.absorbed in
+    let own : found.ops.items ≡ index_ops g.ops = stores.ops_are ∙ sym ready.operations in
+    let stand : all_stand list (index_ops g.ops) ≡ true = subst (λ l. all_stand list l ≡ true) (sym ready.operations) ready.stand in
+    let absorbed : absorbed_all (index_ops g.ops) list ≡ store list (plain_ops ops) now = subst (λ l. absorbed_all l list ≡ store list (plain_ops ops) now) (sym ready.operations) ready.absorbed in
     let few : length (absorbed_all (index_ops g.ops) list).awaited ≤ whole.awaited = subst (λ (l : ShardList). length l.awaited ≤ whole.awaited) (sym absorbed) ready.awaited in
     let room : 5 + length (spelled_group g) + potential (absorbed_all (index_ops g.ops) list) ≤ potential list = group_takes list g is bytes spelled.has stand in (
       record {

@@ -1,5 +1,5 @@
 use Rattle.std.proofs.Common.{◌≡◌, map}
-use Rattle.group_plan.specs.Plan.{index_op}
+use Rattle.record_codec.specs.Records.{index_op}
 use Rattle.group_plan.proofs.placing.index_ops.Given as goal
 
 abbrev pub invariant-loop-op : goal.invariant-loop-op

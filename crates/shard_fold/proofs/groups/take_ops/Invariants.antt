@@ -2,7 +2,7 @@ use Rattle.std.proofs.Common.{◌≡◌, length}
 use Rattle.std.specs.Vec.Iter.{into_iter_items, into_iter_len}
 use Rattle.shard_index.specs.Absorbing.{absorbed_all, all_stand}
 use Rattle.shard_index.specs.KeptIndex.{list_of}
-use Rattle.shard_fold.specs.Fold.{index_ops}
+use Rattle.record_codec.specs.Records.{index_ops}
 use Rattle.shard_fold.proofs.groups.take_ops.Given as goal
 
 abbrev pub invariant-loop-op : goal.invariant-loop-op
