@@ -1,8 +1,8 @@
-// Texts that are no topic name and no topic filter, and those at their edges.
+// Texts that are no topic name and no topic filter, those at their edges, and where a client's identifier leads.
 use std::alloc::{AllocError, Global};
 use std::process::Abort;
 use std::test::Fail;
-use topic_name::{Filter, FilterRefused, Topic, TopicRefused};
+use topic_name::{Filter, FilterRefused, Name, Topic, TopicRefused, shard_of, worker_of};
 
 // A text so many times.
 fn times(alloc: Global, text: &str, count: usize) -> Result<String, AllocError> {
@@ -102,4 +102,18 @@ fn filters_are_refused_at_their_edges(rt: HostRuntime) -> Result<(), Fail> {
             ("a/b#", Some(FilterRefused::BadHash)),
         ],
     )
+}
+
+// The SHA-256 of `abc` begins with BA7816BF 8F01CFEA 414140DE 5DAE2223 (FIPS 180-4): its first eight bytes say the shard, the next
+// eight the worker.
+#[test]
+fn a_client_goes_where_its_hash_says(rt: HostRuntime) -> Result<(), Fail> {
+    let client = Name::of(rt.alloc(), "abc")?;
+    for (shards, shard) in [(1, 0), (2, 0), (8, 2)] {
+        assert_eq!(rt; shard_of(&client, shards), shard, "of {shards} shards");
+    }
+    for (workers, worker) in [(1, 0), (2, 1), (16, 3)] {
+        assert_eq!(rt; worker_of(&client, workers), worker, "of {workers} workers");
+    }
+    Ok(())
 }
