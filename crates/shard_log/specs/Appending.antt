@@ -71,10 +71,10 @@ pub record Follows {D : Type 0} (state : D → DiskState) (plan : Planned) (afte
   pub part : IsPart state (HoldsEither old.asked (shown old) after) old new
   pub cause : IsBlamed (faults_of state (all_disks old.disks)) (faults_of state (all_disks new.disks)) result
 
--- After an append of a group at a moment: a doubt was settled first, to a list. Ok has stored the group in it, shows that, and
--- each choice of images holds it; its receipt tells it. The
--- refusals for room come exactly where the group is refused so over this list, and then nothing is written. A refusal shows what was shown, or that
--- list. At each moment each choice of images holds what was there, with what was in doubt or without, or the list with the group.
+-- After an append of a group at a moment: a doubt was settled first, to a list (`before`). Ok has stored the group in it, shows that, and each choice of
+-- images holds it; its receipt tells it. The refusals for room come only where the group is refused so over this list, and Ok never comes there; after
+-- one nothing was written. A refusal shows what was shown, or that list. At each moment each choice of images holds what was there, with what was in
+-- doubt or without, or the list with the group.
 pub record Appends {D : Type 0} (state : D → DiskState) (ops : List Op) (now : ℕ) (old new : PlainShardLog D) (result : Result ToldReceipt AppendRefused) : Type 0 where
   pub before : ShardList
   pub settled : IsSettled state old before

@@ -16,7 +16,7 @@ use Rattle.shard_log.specs.PlainShardLog.{PlainShardLog, own_slot}
 
 -- the records hold one of three lists
 abbrev pub HoldsAmong : Asked → ShardList → ShardList → ShardList → Reads → Type 0
-HoldsAmong asked before between after reads = HoldsEither asked before between reads ⊎ HoldsOne asked after reads
+HoldsAmong asked known stored after reads = HoldsEither asked known stored reads ⊎ HoldsOne asked after reads
 
 -- The counts of faults never fall: a fault comes only where one rose, and beside every other answer all are what they were.
 pub record IsBlamed {T : Type 0} (before now : List ℕ) (result : Result T AppendRefused) : Type 0 where

@@ -231,8 +231,9 @@ impl<D: Disk> ShardLog<D> {
     }
 
     /// Stores a group at a moment in milliseconds, and answers the offsets of its messages. What was in doubt is settled first, and
-    /// what was stored without being shown is shown. `Full` and `AwaitFull` change nothing; after `Fault` the group is in doubt until
-    /// the next append or tick, and after `Memory` it may be stored and not shown yet, or not stored.
+    /// what was stored without being shown is shown. `Full` and `AwaitFull` write nothing. After `Fault` this group, or what was in
+    /// doubt before it, is in doubt until an append or a tick settles it; after `Memory` the group may be stored and not shown yet,
+    /// or not stored.
     pub fn append(&mut self, ops: &[Op], now: u64) -> Result<Receipt, AppendRefused>
         requires asked { IsTrue (may_ask (plain_config self.old.asked.config) ops.now) }
         ensures appends { Appends D.state ops.now now self.old self.new result }

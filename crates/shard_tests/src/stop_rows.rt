@@ -72,7 +72,8 @@ fn after_append(alloc: Global, failing: u32, image: u8) -> Option<String> {
     text_after(alloc, &disks, image)
 }
 
-// Each row is the call of an append that fails, 0 for none, and what each image holds: o before it, n after it.
+// Each row is the call of an append that fails, 0 for none, and what each image holds: o before it, n after it. The images are those
+// of `MemoryDisk::crash` in order: of what wasn't synced nothing, all, the first half, bytes A5, bytes 01.
 #[test]
 fn a_crash_inside_an_append_leaves_the_list_before_or_after(rt: HostRuntime) -> Result<(), Fail> {
     let rows: [(u32, [u8; 5]); 5] = [
