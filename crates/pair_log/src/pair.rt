@@ -166,6 +166,8 @@ impl<D: Disk> PairLog<D> {
         ensures rests { IfOk result (λ pair. pair.doubt ≡ Nothing) }
         ensures any_moment { IfOk result
             (λ pair. MountKeeps D.state first second snapshot.now pair) }
+        // All that it did is one step.
+        ensures past { IfOk result (λ pair. pair.past ≡ (first, second) ∷ []) }
         ensures images { IfOk result (λ pair. HasEither D.state pair) }
         ensures first_bytes { IfOk result
             (λ pair. IsTrue (D.state first).tells → IsTrue (D.state second).tells

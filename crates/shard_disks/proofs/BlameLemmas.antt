@@ -1,5 +1,5 @@
 -- The one disk that a call moved, by its place: it alone is to blame.
-use Rattle.std.proofs.Common.{◌≡◌, ℕ, zero, suc, ◌+◌, Result, Ok, Err, IfErr, List, [], ◌∷◌, map, Option, refl, sym, ap, subst, ◌∙◌, arith}
+use Rattle.std.proofs.Common.{◌≡◌, ℕ, zero, suc, ◌+◌, Result, Ok, Err, IfErr, List, [], ◌∷◌, map, Option, refl, sym, ap, subst, arith}
 use Rattle.outside.specs.DiskModel.{DiskState}
 use Rattle.gated_log.specs.Blame as log
 use Rattle.gated_log.specs.PlainLog.{PlainLog}

@@ -13,7 +13,7 @@ use Rattle.pair_log.specs.Epochs.{read_pair}
 use Rattle.pair_log.specs.PlainPair as pair
 use Rattle.pair_log.specs.PlainPair.{HasEither, PlainPair, after_doubt, after_of, first_disk, second_disk}
 use Rattle.pair_log.specs.Sides.{first_of, second_of}
-use Rattle.shard_disks.specs.Images.{AllRead, MayLeaveAll, WithinAll, tell_all}
+use Rattle.shard_disks.specs.Images.{AllRead, MayLeaveAll, WithinAll, stays_now, tell_all}
 use Rattle.shard_disks.specs.Lists.{EachHas, HasAt, Moved, Pairwise, PairwiseBut}
 use Rattle.shard_disks.specs.Outline.{Reads, payloads_after, payloads_of, reads_in}
 use Rattle.shard_disks.specs.PlainDisks.{disk_of, disks_in, outline_of}
@@ -25,7 +25,7 @@ pub both_true : (a b : Bool) → IsTrue (a && b) → IsTrue a × IsTrue b
 both_true true b t = (refl, t)
 both_true false b t = absurd (true≢false (sym t))
 
-told_of : {D : Type 0} (state : D → DiskState) (side : Side) (a b : D) → IsTrue (state (first_of side a b)).tells → IsTrue (state (second_of side a b)).tells
+pub told_of : {D : Type 0} (state : D → DiskState) (side : Side) (a b : D) → IsTrue (state (first_of side a b)).tells → IsTrue (state (second_of side a b)).tells
     → IsTrue (state a).tells × IsTrue (state b).tells
 told_of state First a b first second = (first, second)
 told_of state Second a b first second = (second, first)
@@ -162,13 +162,6 @@ module _ {D : Type 0} (state : D → DiskState) where
       subst (λ l. P (record { manifest = l; slots = map records images })) (sym (manifest_reads m has rests told a b left.0 left.1.0)) (slots images left.1.1)
 
 module _ {D : Type 0} (state : D → DiskState) (only : (disk : D) (image : List ℕ) → (state disk).left_since (state disk).calls image → (state disk).may_leave image) where
-  -- what stayed leaves what it may leave now
-  pub stays_now : (disks : List D) (images : List (List ℕ)) → WithinAll state disks disks images → MayLeaveAll state disks images
-  stays_now [] [] w = tt
-  stays_now [] (x ∷ xs) w = absurd w
-  stays_now (d ∷ disks) [] w = absurd w
-  stays_now (d ∷ disks) (x ∷ xs) w = (only d x w.0, stays_now disks xs w.1)
-
   stays_each : (R : PlainLog D → List ℕ → Type 0) (B : PlainLog D → Type 0) → ((log : PlainLog D) (image : List ℕ) → B log → (state log.disk).may_leave image → R log image)
       → (logs : List (PlainLog D)) (images : List (List ℕ)) → EachHas B logs → WithinAll state (map disk_of logs) (map disk_of logs) images → Pairwise R logs images
   stays_each R B r [] [] h w = tt
@@ -206,4 +199,4 @@ module _ {D : Type 0} (state : D → DiskState) (only : (disk : D) (image : List
       → (images : List (List ℕ)) → WithinAll state (disks_in m logs) (disks_in n logs) images → P (reads_in images)
   within_pair m n logs R P pair slots [] w = absurd w
   within_pair m n logs R P pair slots (a ∷ []) w = absurd w.1
-  within_pair m n logs R P pair slots (a ∷ (b ∷ images)) w = slots (read_pair a b) images (pair a b w.0 w.1.0) (stays_now (map disk_of logs) images w.1.1)
+  within_pair m n logs R P pair slots (a ∷ (b ∷ images)) w = slots (read_pair a b) images (pair a b w.0 w.1.0) (stays_now state only (map disk_of logs) images w.1.1)

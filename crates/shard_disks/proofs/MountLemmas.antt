@@ -1,7 +1,7 @@
 -- The logs of all slots are mounted: what they hold then, and what a crash leaves meanwhile.
 use Rattle.std.proofs.Common.{◌≡◌, ◌⊎◌, inl, inr, ℕ, zero, suc, ◌-◌, ◌^◌, ◌≤◌, Bool, true, false, if◌then◌else◌, IsTrue, List, [], ◌∷◌, length, map, None, Option, Some, refl, sym, ap, subst, ◌∙◌, arith}
-use Rattle.outside.specs.DiskModel.{DiskState}
-use Rattle.gated_log.specs.Calls.{ImagesHave}
+use Rattle.outside.specs.DiskModel.{DiskState, LeavesOnly}
+use Rattle.gated_log.specs.Calls.{ImagesHave, IsRepaired}
 use Rattle.gated_log.specs.Closing.{with_gate}
 use Rattle.gated_log.specs.PlainLog.{AllHave, PlainLog, end_of}
 use Rattle.gated_log.specs.Records.{Front, and_front, front_record, records, records_within, rest_of}
@@ -12,8 +12,8 @@ use Rattle.pair_log.specs.Mounted.{AreMounting, IsBeginning, IsMounting, begun, 
 use Rattle.pair_log.specs.Sides.{first_of, second_of}
 use Rattle.shard_disks.specs.Images.{MayLeaveAll, WithinAll, faults_of, seen_of, tell_all, tells_of}
 use Rattle.shard_disks.specs.Lists.{EachHas, Pairwise}
-use Rattle.shard_disks.specs.Mounting.{IsLogMounted, closed}
-use Rattle.shard_disks.specs.Outline.{payloads_of}
+use Rattle.shard_disks.specs.Mounting.{AllSinceFirst, IsLogMounted, ReadsAsBefore, closed}
+use Rattle.shard_disks.specs.Outline.{Reads, payloads_of, reads_in, with_first}
 use Rattle.shard_disks.specs.PlainDisks.{disk_of, outline_of}
 use Rattle.shard_disks.specs.Stands.{IsCounted, RestsNow}
 use Rattle.shard_disks.proofs.ImageLemmas.{both_true, lists}
@@ -38,6 +38,12 @@ pairs_length R [] (y ∷ ys) p = absurd p
 pairs_length R (x ∷ xs) [] p = absurd p
 pairs_length R (x ∷ xs) (y ∷ ys) p = ap suc (pairs_length R xs ys p.1)
 
+pub pairs_mapped : {A B C : Type 0} (f : B → C) (R : A → B → Type 0) (Q : A → C → Type 0) → ((x : A) (y : B) → R x y → Q x (f y)) → (xs : List A) (ys : List B) → Pairwise R xs ys → Pairwise Q xs (map f ys)
+pairs_mapped f R Q has [] [] p = tt
+pairs_mapped f R Q has [] (y ∷ ys) p = absurd p
+pairs_mapped f R Q has (x ∷ xs) [] p = absurd p
+pairs_mapped f R Q has (x ∷ xs) (y ∷ ys) p = (has x y p.0, pairs_mapped f R Q has xs ys p.1)
+
 -- a function of what the one has is a function of the other
 pub pairs_lists : {A B C E : Type 0} (h : B → C) (v : C → E) (u : A → E) (R : A → B → Type 0) → ((x : A) (y : B) → R x y → v (h y) ≡ u x) → (xs : List A) (ys : List B) → Pairwise R xs ys → map v (map h ys) ≡ map u xs
 pairs_lists h v u R same [] [] p = refl
@@ -48,6 +54,9 @@ pairs_lists h v u R same (x ∷ xs) (y ∷ ys) p = ap (λ e. e ∷ map v (map h 
 pub map_of_map : {A B C : Type 0} (g : B → C) (f : A → B) (xs : List A) → map (λ x. g (f x)) xs ≡ map g (map f xs)
 map_of_map g f [] = refl
 map_of_map g f (x ∷ xs) = ap (λ l. g (f x) ∷ l) (map_of_map g f xs)
+
+pub reads_three : {x y : List (List ℕ)} {l k : List (List (List ℕ))} → x ≡ y → l ≡ k → (let r : Reads = record { manifest = x; slots = l } in r) ≡ record { manifest = y; slots = k }
+reads_three {y = y} {l = l} e f = ap (λ v. record { manifest = v; slots = l }) e ∙ ap (λ v. record { manifest = y; slots = v }) f
 
 -- ---- which disks tell
 
@@ -156,20 +165,57 @@ pub record SlotsBefore {D : Type 0} (state : D → DiskState) (disks : List D) (
   pub left : MayLeaveAll state disks before
   pub reads : lists_read ≡ map records before
 
-pub slots_before : {D : Type 0} (state : D → DiskState) (limit : ℕ) (image_now : (disk : D) → IsTrue (state disk).tells → (state disk).may_leave (state disk).seen)
-    → (disks : List D) (logs : List (PlainLog D)) (images : List (List ℕ)) → Pairwise (λ disk log. IsLogMounted state limit disk log × IsTrue (state disk).tells) disks logs
-    → WithinAll state disks (map disk_of logs) images → SlotsBefore state disks (map records images)
-slots_before state limit image_now [] [] [] p w = record { before = []; left = tt; reads = refl }
-slots_before state limit image_now [] [] (x ∷ images) p w = absurd w
-slots_before state limit image_now [] (log ∷ logs) images p w = absurd p
-slots_before state limit image_now (disk ∷ disks) [] images p w = absurd p
-slots_before state limit image_now (disk ∷ disks) (log ∷ logs) [] p w = absurd w
-slots_before {D = D} state limit image_now (disk ∷ disks) (log ∷ logs) (x ∷ images) p w =
-    by ((p.0.0.mounting.moments p.0.1).each x w.0) (slots_before state limit image_now disks logs images p.1 w.1)
+-- a disk is mounted or refused, or nothing is done to it: what it might have left meanwhile
+abbrev pub Remounts : {D : Type 0} → (D → DiskState) → D → D → Type 0
+Remounts state old new = LeavesOnly (state old) (state new) (IsMounting (state old).may_leave (records (state old).seen))
+
+pub slots_before : {D : Type 0} (state : D → DiskState) (image_now : (disk : D) → IsTrue (state disk).tells → (state disk).may_leave (state disk).seen)
+    → (disks now : List D) (images : List (List ℕ)) → EachHas (λ disk. IsTrue (state disk).tells) disks → Pairwise (Remounts state) disks now
+    → WithinAll state disks now images → SlotsBefore state disks (map records images)
+slots_before state image_now [] [] [] told p w = record { before = []; left = tt; reads = refl }
+slots_before state image_now [] [] (x ∷ images) told p w = absurd w
+slots_before state image_now [] (d ∷ now) images told p w = absurd p
+slots_before state image_now (disk ∷ disks) [] images told p w = absurd p
+slots_before state image_now (disk ∷ disks) (d ∷ now) [] told p w = absurd w
+slots_before state image_now (disk ∷ disks) (d ∷ now) (x ∷ images) told p w = by (p.0.each x w.0) (slots_before state image_now disks now images told.1 p.1 w.1)
   where
-    by : (state disk).may_leave x ⊎ (records x ≡ records (state disk).seen) → SlotsBefore state disks (map records images) → SlotsBefore state (disk ∷ disks) (records x ∷ map records images)
+    by : IsMounting (state disk).may_leave (records (state disk).seen) x → SlotsBefore state disks (map records images) → SlotsBefore state (disk ∷ disks) (records x ∷ map records images)
     by (inl left) s = record { before = x ∷ s.before; left = (left, s.left); reads = ap (λ l. records x ∷ l) s.reads }
-    by (inr same) s = record { before = (state disk).seen ∷ s.before; left = (image_now disk p.0.1, s.left); reads = ap (λ v. v ∷ map records images) same ∙ ap (λ l. records (state disk).seen ∷ l) s.reads }
+    by (inr same) s = record { before = (state disk).seen ∷ s.before; left = (image_now disk told.0, s.left); reads = ap (λ v. v ∷ map records images) same ∙ ap (λ l. records (state disk).seen ∷ l) s.reads }
+
+-- what may be left now is what might have been left since an earlier moment
+pub slots_now : {D : Type 0} (state : D → DiskState) → ((disk : D) (t : ℕ) (image : List ℕ) → t ≤ (state disk).calls → (state disk).may_leave image → (state disk).left_since t image)
+    → (disks now : List D) (images : List (List ℕ)) → Pairwise (Remounts state) disks now → MayLeaveAll state now images → WithinAll state disks now images
+slots_now state counts [] [] [] p left = tt
+slots_now state counts [] [] (x ∷ images) p left = absurd left
+slots_now state counts [] (d ∷ now) images p left = absurd p
+slots_now state counts (disk ∷ disks) [] images p left = absurd p
+slots_now state counts (disk ∷ disks) (d ∷ now) [] p left = absurd left
+slots_now state counts (disk ∷ disks) (d ∷ now) (x ∷ images) p left = (counts d (state disk).calls x p.0.later left.0, slots_now state counts disks now images p.1 left.1)
+
+-- both of the manifest and the slots
+pub both_before : {D : Type 0} (state : D → DiskState) (first second : D) (rest : List D) (snapshot a b : List ℕ) (images : List (List ℕ))
+    → PairBefore (state first) (state second) snapshot (read_pair a b) → SlotsBefore state rest (map records images) → ReadsAsBefore state (first ∷ (second ∷ rest)) snapshot (a ∷ (b ∷ images))
+both_before state first second rest snapshot a b images q s = record {
+  before = q.first_before ∷ (q.second_before ∷ s.before);
+  left = (q.first_left, (q.second_left, s.left));
+  reads = by q.reads;
+} where
+  by : (read_pair a b ≡ read_pair q.first_before q.second_before) ⊎ (read_pair a b ≡ or_first snapshot (read_pair q.first_before q.second_before))
+      → (reads_in (a ∷ (b ∷ images)) ≡ reads_in (q.first_before ∷ (q.second_before ∷ s.before))) ⊎ (reads_in (a ∷ (b ∷ images)) ≡ with_first snapshot (reads_in (q.first_before ∷ (q.second_before ∷ s.before))))
+  by (inl e) = inl (reads_three e s.reads)
+  by (inr e) = inr (reads_three e s.reads)
+
+-- once the first call of each disk was done, images have the records of the start
+pub slots_since : {D : Type 0} (state : D → DiskState) (disks now : List D) (images : List (List ℕ)) → Pairwise (λ d e. IsRepaired (state d) (state e)) disks now
+    → AllSinceFirst state disks now images → map records images ≡ map records (seen_of state disks)
+slots_since state [] [] [] p w = refl
+slots_since state [] [] (x ∷ images) p w = absurd w
+slots_since state [] (d ∷ now) images p w = absurd p
+slots_since state (disk ∷ disks) [] images p w = absurd p
+slots_since state (disk ∷ disks) (d ∷ now) [] p w = absurd w
+slots_since state (disk ∷ disks) (d ∷ now) (x ∷ images) p w =
+    ap (λ v. v ∷ map records images) (p.0 x w.0) ∙ ap (λ l. records (state disk).seen ∷ l) (slots_since state disks now images p.1 w.1)
 
 -- ---- what the slots hold then
 
@@ -209,6 +255,12 @@ module _ {D : Type 0} (state : D → DiskState) (limit : ℕ) (disks : List D) (
   pub all_limits : EachHas (λ (log : PlainLog D). log.limit ≡ limit) logs
   all_limits = pairs_each (IsLogMounted state limit) (λ (log : PlainLog D). log.limit ≡ limit) (λ d log m. m.limit_kept) disks logs mounted
 
-  pub all_before : ((disk : D) → IsTrue (state disk).tells → (state disk).may_leave (state disk).seen) → EachHas (λ d. IsTrue (state d).tells) disks
-      → (images : List (List ℕ)) → WithinAll state disks (map disk_of logs) images → SlotsBefore state disks (map records images)
-  all_before image_now told images w = slots_before state limit image_now disks logs images (told_pairs told) w
+  pub all_move : EachHas (λ d. IsTrue (state d).tells) disks → Pairwise (Remounts state) disks (map disk_of logs)
+  all_move told = pairs_mapped disk_of (λ d log. IsLogMounted state limit d log × IsTrue (state d).tells) (Remounts state) (λ d log m. m.0.mounting.moments m.1) disks logs (told_pairs told)
+
+  -- once the first call of each disk was done, images read as the logs do
+  pub all_since : EachHas (λ d. IsTrue (state d).tells) disks → (images : List (List ℕ)) → AllSinceFirst state disks (map disk_of logs) images → map records images ≡ lists logs
+  all_since told images w =
+      slots_since state disks (map disk_of logs) images
+      (pairs_mapped disk_of (λ d log. IsLogMounted state limit d log × IsTrue (state d).tells) (λ d e. IsRepaired (state d) (state e)) (λ d log m. m.0.repaired m.1) disks logs (told_pairs told)) w
+      ∙ sym (all_lists told)

@@ -1,11 +1,12 @@
 -- A mount is refused, and all disks are handed back.
-use Rattle.std.proofs.Common.{◌≡◌, inl, inr, ℕ, suc, ◌+◌, ◌<◌, IsTrue, List, [], ◌∷◌, ◌++◌, length, map, take, drop, Vec, refl, sym, ap, subst, ◌∙◌, arith, length-append}
+use Rattle.std.proofs.Common.{◌≡◌, ◌⊎◌, inl, inr, ℕ, suc, ◌+◌, ◌<◌, ◌≤◌, IsTrue, List, [], ◌∷◌, ◌++◌, length, map, take, drop, Vec, refl, sym, ap, subst, ◌∙◌, arith, length-append}
 use Rattle.std.proofs.lemmas.List.{length-map}
 use Rattle.std.specs.declared.alloc.Global.{Global}
 use Rattle.std.specs.Int.{w32, to_be_bytes}
-use Rattle.outside.specs.DiskModel.{DiskState, Torn}
+use Rattle.outside.specs.Along.{WithinBoth, left_between}
+use Rattle.outside.specs.DiskModel.{DiskState, Torn, leaves_only_at_first}
 use Rattle.outside.specs.Torn.{torn_same, torn_written}
-use Rattle.gated_log.specs.Calls.{with_record}
+use Rattle.gated_log.specs.Calls.{IsRepaired, IsUnsynced, with_record}
 use Rattle.gated_log.specs.Closing.{IsGateTorn}
 use Rattle.gated_log.specs.PlainLog.{PlainLog, end_of}
 use Rattle.gated_log.specs.Records.{body_bytes, records}
@@ -13,16 +14,20 @@ use Rattle.gated_log.specs.declared.refused.LogRefused.{LogRefused}
 use Rattle.gated_log.specs.declared.refused.LogRefused.TheVariants.{Memory}
 use Rattle.pair_log.specs.declared.side.Side.{Side}
 use Rattle.pair_log.specs.declared.side.Side.TheVariants.{First, Second}
-use Rattle.pair_log.specs.Mounted.{IsBlamedOn, IsMountTorn, first_record, mounted_first}
-use Rattle.pair_log.specs.PlainPair.{PlainPair, first_disk, second_disk}
+use Rattle.pair_log.specs.Epochs.{read_pair}
+use Rattle.pair_log.specs.Mounted.{AreMounting, IsBlamedOn, IsMountTorn, IsMounting, first_record, mounted_first}
+use Rattle.pair_log.specs.PlainPair.{PlainPair, both_disks, first_disk, second_disk}
 use Rattle.pair_log.specs.Sides.{number_of}
 use Rattle.shard_disks.specs.Blame.{IsBlamedAt}
-use Rattle.shard_disks.specs.Images.{arms_of, faults_of, seen_of, tell_all, tells_of}
+use Rattle.shard_disks.specs.Images.{MayLeaveAll, WithinAll, arms_of, faults_of, seen_of, stays_now, tell_all, tells_of}
 use Rattle.shard_disks.specs.Lists.{EachHas, Pairwise}
-use Rattle.shard_disks.specs.Mounting.{AreMountTorn, IsLogMounted, IsLogRefused, IsStopped, MountsPair, RefusesDisks, RefusesPair}
+use Rattle.shard_disks.specs.Mounting.{AreBehindSync, AreMountTorn, IsLogMounted, IsLogRefused, IsStopped, MountsPair, OnceSynced, ReadsAsBefore, RefusesDisks, RefusesPair, none_behind}
+use Rattle.shard_disks.specs.Outline.{reads_in, with_first}
 use Rattle.shard_disks.specs.PlainDisks.{disk_of, disks_in}
 use Rattle.shard_disks.proofs.ListLemmas.{pairs_same}
-use Rattle.shard_disks.proofs.MountLemmas.{pairs_length, told_three}
+use Rattle.shard_disks.proofs.HistoryLemmas.{step_of}
+use Rattle.shard_disks.proofs.ImageLemmas.{manifest_reads, told_of}
+use Rattle.shard_disks.proofs.MountLemmas.{PairBefore, Remounts, both_before, pair_before, pairs_length, reads_three, slots_before, slots_now, slots_since, told_three}
 
 -- ---- bytes
 
@@ -52,16 +57,30 @@ GateTorn old new = IsGateTorn (end_of (records old)) old new
 rest_torn : (bytes : List (List ℕ)) → Pairwise GateTorn bytes bytes
 rest_torn bytes = pairs_same GateTorn (λ b. inl refl) bytes
 
+-- ---- what a disk gives
+
+abbrev pub OnlyNow : {D : Type 0} → (D → DiskState) → Type 0
+OnlyNow {D} state = (disk : D) (image : List ℕ) → (state disk).left_since (state disk).calls image → (state disk).may_leave image
+
+abbrev pub ReadsAsImage : {D : Type 0} → (D → DiskState) → Type 0
+ReadsAsImage {D} state = (disk : D) → IsTrue (state disk).tells → (state disk).may_leave (state disk).seen
+
+abbrev pub CountsNow : {D : Type 0} → (D → DiskState) → Type 0
+CountsNow {D} state = (disk : D) (t : ℕ) (image : List ℕ) → t ≤ (state disk).calls → (state disk).may_leave image → (state disk).left_since t image
+
 -- ---- nothing was mounted
 
-pub none_mounted : {D : Type 0} (state : D → DiskState) (snapshot : List ℕ) (disks : Vec D Global) → length disks.items ≡ 10 → RefusesDisks state disks.items snapshot (disks, 0, Memory)
-none_mounted state snapshot disks ten = record {
+pub none_mounted : {D : Type 0} (state : D → DiskState) → OnlyNow state → (snapshot : List ℕ) (disks : Vec D Global) → length disks.items ≡ 10 → RefusesDisks state disks.items snapshot (disks, 0, Memory)
+none_mounted state only snapshot disks ten = record {
   ten = ten;
   place = omega arith;
   never_full = λ e. cc;
   cause = blamed disks.items ten;
   kept = record { tells = refl; arms = refl };
   bytes = λ told. torn disks.items ten;
+  any_moment = λ told images w. record { before = images; left = stays_now state only disks.items images w; reads = inl refl };
+  images = λ told images left. record { before = images; left = left; reads = inl refl };
+  synced = λ told behind images w. absurd (none_behind state disks.items (omega (arith, ten)) behind);
 } where
   blamed : (ds : List _) → length ds ≡ 10 → IsBlamedAt 0 Memory (faults_of state ds) (faults_of state ds)
   blamed [] e = absurd (omega (arith, e))
@@ -86,9 +105,9 @@ side_below Second = omega arith
 both_kept : {D E : Type 0} (f : D → E) (a b c d : D) (rest : List D) → f c ≡ f a → f d ≡ f b → map f (c ∷ (d ∷ rest)) ≡ map f (a ∷ (b ∷ rest))
 both_kept f a b c d rest e g = ap (λ x. x ∷ (f d ∷ map f rest)) e ∙ ap (λ x. f a ∷ (x ∷ map f rest)) g
 
-pub pair_refused : {D : Type 0} (state : D → DiskState) (snapshot : List ℕ) (disks : List D) (now : Vec D Global) (place : ℕ) (why : LogRefused) → length disks ≡ 10
+pub pair_refused : {D : Type 0} (state : D → DiskState) → OnlyNow state → ReadsAsImage state → CountsNow state → (snapshot : List ℕ) (disks : List D) (now : Vec D Global) (place : ℕ) (why : LogRefused) → length disks ≡ 10
     → RefusesPair state disks now.items snapshot place why → RefusesDisks state disks snapshot (now, place, why)
-pair_refused {D = D} state snapshot disks now place why ten r =
+pair_refused {D = D} state only image_now counts snapshot disks now place why ten r =
     let two : length disks ≡ suc (suc (length r.rest)) = ap length r.were in
     let two_now : length now.items ≡ suc (suc (length r.rest)) = ap length r.are in
     record {
@@ -105,8 +124,37 @@ pair_refused {D = D} state snapshot disks now place why ten r =
       };
       bytes = subst (λ ds. IsTrue (tell_all state ds) → AreMountTorn snapshot (seen_of state ds) (seen_of state now.items)) (sym r.were)
           (λ told. subst (λ ds. AreMountTorn snapshot (seen_of state (r.first ∷ (r.second ∷ r.rest))) (seen_of state ds)) (sym r.are) (torn told));
+      any_moment = subst (λ ds. IsTrue (tell_all state ds) → (images : List (List ℕ)) → WithinAll state ds now.items images → ReadsAsBefore state ds snapshot images) (sym r.were)
+          (λ told. subst (λ ds. (images : List (List ℕ)) → WithinAll state (r.first ∷ (r.second ∷ r.rest)) ds images → ReadsAsBefore state (r.first ∷ (r.second ∷ r.rest)) snapshot images) (sym r.are) (moves told));
+      images = subst (λ ds. IsTrue (tell_all state ds) → (images : List (List ℕ)) → MayLeaveAll state now.items images → ReadsAsBefore state ds snapshot images) (sym r.were)
+          (λ told. subst (λ ds. (images : List (List ℕ)) → MayLeaveAll state ds images → ReadsAsBefore state (r.first ∷ (r.second ∷ r.rest)) snapshot images) (sym r.are) (left_now told));
+      synced = λ told behind images w. absurd (none_behind state (r.first ∷ (r.second ∷ r.rest)) (omega (arith, ten, two))
+          (subst (λ ds. AreBehindSync state ds (r.first ∷ (r.second ∷ r.rest))) r.were (subst (λ ds. AreBehindSync state disks ds) r.are behind)));
     }
   where
+    pair_as : IsTrue (state r.first).tells → IsTrue (state r.second).tells → (a b : List ℕ) → left_between state r.first r.first_now a → left_between state r.second r.second_now b
+        → PairBefore (state r.first) (state r.second) snapshot (read_pair a b)
+    pair_as first second a b left right =
+        pair_before (state r.first) (state r.second) snapshot (image_now r.first first) (image_now r.second second) a b ((r.first_moments first second).each a left, (r.second_moments second).each b right)
+
+    moves : IsTrue (tell_all state (r.first ∷ (r.second ∷ r.rest))) → (images : List (List ℕ)) → WithinAll state (r.first ∷ (r.second ∷ r.rest)) (r.first_now ∷ (r.second_now ∷ r.rest)) images
+        → ReadsAsBefore state (r.first ∷ (r.second ∷ r.rest)) snapshot images
+    moves told [] w = absurd w
+    moves told (a ∷ []) w = absurd w.1
+    moves told (a ∷ (b ∷ images)) w =
+        let t = told_three state r.first r.second r.rest told in
+        both_before state r.first r.second r.rest snapshot a b images (pair_as t.0 t.1 a b w.0 w.1.0) (record { before = images; left = stays_now state only r.rest images w.1.1; reads = refl })
+
+    left_now : IsTrue (tell_all state (r.first ∷ (r.second ∷ r.rest))) → (images : List (List ℕ)) → MayLeaveAll state (r.first_now ∷ (r.second_now ∷ r.rest)) images
+        → ReadsAsBefore state (r.first ∷ (r.second ∷ r.rest)) snapshot images
+    left_now told [] left = absurd left
+    left_now told (a ∷ []) left = absurd left.1
+    left_now told (a ∷ (b ∷ images)) left =
+        let t = told_three state r.first r.second r.rest told in
+        both_before state r.first r.second r.rest snapshot a b images
+        (pair_as t.0 t.1 a b (counts r.first_now (state r.first).calls a (r.first_moments t.0 t.1).later left.0) (counts r.second_now (state r.second).calls b (r.second_moments t.1).later left.1.0))
+        (record { before = images; left = left.1.1; reads = refl })
+
     torn : IsTrue (tell_all state (r.first ∷ (r.second ∷ r.rest))) → AreMountTorn snapshot (seen_of state (r.first ∷ (r.second ∷ r.rest))) (seen_of state (r.first_now ∷ (r.second_now ∷ r.rest)))
     torn told =
         let t = told_three state r.first r.second r.rest told in
@@ -136,10 +184,35 @@ module _ {D : Type 0} (state : D → DiskState) (limit : ℕ) (disk now : D) (re
   torn_behind (d ∷ before) [] p told = absurd p
   torn_behind (d ∷ before) (log ∷ logs) p told = (p.0.mounting.bytes told.0, torn_behind before logs p.1 told.1)
 
-pub slot_refused : {D : Type 0} (state : D → DiskState) (snapshot : List ℕ) (disks rest later : List D) (manifest_limit limit : ℕ) (m : PlainPair D) (logs : List (PlainLog D)) (now : D) (why : LogRefused) (back : Vec D Global)
+  moved_behind : OnlyNow state → (before : List D) (logs : List (PlainLog D)) → Pairwise (IsLogMounted state limit) before logs → EachHas (λ d. IsTrue (state d).tells) (before ++ disk ∷ rest)
+      → Pairwise (Remounts state) (before ++ disk ∷ rest) (map disk_of logs ++ now ∷ rest)
+  moved_behind only [] [] p told =
+      (refused.mounting.moments told.0, pairs_same (Remounts state) (λ d. leaves_only_at_first (state d) (IsMounting (state d).may_leave (records (state d).seen)) (only d) (λ image left. inl left)) rest)
+  moved_behind only [] (log ∷ logs) p told = absurd p
+  moved_behind only (d ∷ before) [] p told = absurd p
+  moved_behind only (d ∷ before) (log ∷ logs) p told = (p.0.mounting.moments told.0, moved_behind only before logs p.1 told.1)
+
+  -- whose sync was done
+  repaired_behind : (before : List D) (logs : List (PlainLog D)) → Pairwise (IsLogMounted state limit) before logs → EachHas (λ d. IsTrue (state d).tells) (before ++ disk ∷ rest)
+      → Pairwise (λ d e. (state d).calls + 2 ≤ (state e).calls) (before ++ disk ∷ rest) (map disk_of logs ++ now ∷ rest)
+      → Pairwise (λ d e. IsRepaired (state d) (state e)) (before ++ disk ∷ rest) (map disk_of logs ++ now ∷ rest)
+  repaired_behind [] [] p told behind = (by (refused.mounting.phases told.0), none rest behind.1)
+    where
+      by : IsUnsynced (state disk) (state now) ⊎ IsRepaired (state disk) (state now) → IsRepaired (state disk) (state now)
+      by (inl unsynced) = absurd (omega (arith, unsynced.0, behind.0))
+      by (inr repaired) = repaired
+
+      none : (ds : List D) → Pairwise (λ d e. (state d).calls + 2 ≤ (state e).calls) ds ds → Pairwise (λ d e. IsRepaired (state d) (state e)) ds ds
+      none [] b = tt
+      none (d ∷ ds) b = absurd (omega (arith, b.0))
+  repaired_behind [] (log ∷ logs) p told behind = absurd p
+  repaired_behind (d ∷ before) [] p told behind = absurd p
+  repaired_behind (d ∷ before) (log ∷ logs) p told behind = (p.0.repaired told.0, repaired_behind before logs p.1 told.1 behind.1)
+
+pub slot_refused : {D : Type 0} (state : D → DiskState) → OnlyNow state → ReadsAsImage state → CountsNow state → (snapshot : List ℕ) (disks rest later : List D) (manifest_limit limit : ℕ) (m : PlainPair D) (logs : List (PlainLog D)) (now : D) (why : LogRefused) (back : Vec D Global)
     → length disks ≡ 10 → MountsPair state disks rest manifest_limit snapshot m → IsStopped state limit rest later logs (now, why) → back.items ≡ disks_in m logs ++ now ∷ later
     → RefusesDisks state disks snapshot (back, 2 + length logs, why)
-slot_refused {D = D} state snapshot disks rest later manifest_limit limit m logs now why back ten p s back_is =
+slot_refused {D = D} state only image_now counts snapshot disks rest later manifest_limit limit m logs now why back ten p s back_is =
     subst (λ ds. RefusesDisks state ds snapshot (back, 2 + length logs, why)) (sym were) (record {
       ten = omega (arith, ten, long_were, long_back, many);
       place = omega (arith, ten, long_were, many);
@@ -152,8 +225,55 @@ slot_refused {D = D} state snapshot disks rest later manifest_limit limit m logs
         arms = ap (arms_of state) back_is ∙ kept_all (λ d. (state d).arms) p.first_arms p.second_arms s.why.mounting.arms (λ d log c. c.mounting.arms);
       };
       bytes = λ told. subst (λ ds. AreMountTorn snapshot (seen_of state (p.first ∷ (p.second ∷ (s.before ++ s.disk ∷ later)))) (seen_of state ds)) (sym back_is) (torn told);
+      any_moment = λ told. subst (λ ds. (images : List (List ℕ)) → WithinAll state (p.first ∷ (p.second ∷ slots)) ds images → ReadsAsBefore state (p.first ∷ (p.second ∷ slots)) snapshot images) (sym back_is) (moves told);
+      images = λ told. subst (λ ds. (images : List (List ℕ)) → MayLeaveAll state ds images → ReadsAsBefore state (p.first ∷ (p.second ∷ slots)) snapshot images) (sym back_is) (left_now told);
+      synced = λ told. subst (λ ds. AreBehindSync state (p.first ∷ (p.second ∷ slots)) ds → (images : List (List ℕ)) → OnceSynced state (take 2 ds ++ slots) ds images
+          → reads_in images ≡ with_first snapshot (reads_in (seen_of state (p.first ∷ (p.second ∷ slots))))) (sym back_is) (once_synced told);
     })
   where
+    slots : List D
+    slots = s.before ++ s.disk ∷ later
+
+    moved : EachHas (λ d. IsTrue (state d).tells) slots → Pairwise (Remounts state) slots (map disk_of logs ++ now ∷ later)
+    moved told = moved_behind state limit s.disk now later why s.why only s.before logs s.mounted told
+
+    moves : IsTrue (tell_all state (p.first ∷ (p.second ∷ slots))) → (images : List (List ℕ)) → WithinAll state (p.first ∷ (p.second ∷ slots)) (disks_in m logs ++ now ∷ later) images
+        → ReadsAsBefore state (p.first ∷ (p.second ∷ slots)) snapshot images
+    moves told [] w = absurd w
+    moves told (a ∷ []) w = absurd w.1
+    moves told (a ∷ (b ∷ images)) w =
+        let t = told_three state p.first p.second slots told in
+        both_before state p.first p.second slots snapshot a b images
+        (pair_before (state p.first) (state p.second) snapshot (image_now p.first t.0) (image_now p.second t.1) a b
+        (step_of (WithinBoth state) (AreMounting (state p.first) (state p.second) snapshot) [] (p.first, p.second) m.past (both_disks m) p.past (p.any_moment t.0 t.1) (a, b) (w.0, w.1.0)))
+        (slots_before state image_now slots (map disk_of logs ++ now ∷ later) images t.2 (moved t.2) w.1.1)
+
+    left_now : IsTrue (tell_all state (p.first ∷ (p.second ∷ slots))) → (images : List (List ℕ)) → MayLeaveAll state (disks_in m logs ++ now ∷ later) images
+        → ReadsAsBefore state (p.first ∷ (p.second ∷ slots)) snapshot images
+    left_now told [] left = absurd left
+    left_now told (a ∷ []) left = absurd left.1
+    left_now told (a ∷ (b ∷ images)) left =
+        let t = told_three state p.first p.second slots told in
+        both_before state p.first p.second slots snapshot a b images
+        (record {
+          first_before = (state p.first).seen;
+          second_before = (state p.second).seen;
+          first_left = image_now p.first t.0;
+          second_left = image_now p.second t.1;
+          reads = inr (manifest_reads state m p.images p.rests (told_of state m.side m.active.disk m.standby.disk (p.first_tells ∙ t.0) (p.second_tells ∙ t.1)) a b left.0 left.1.0 ∙ p.list t.0 t.1);
+        })
+        (slots_before state image_now slots (map disk_of logs ++ now ∷ later) images t.2 (moved t.2) (slots_now state counts slots (map disk_of logs ++ now ∷ later) images (moved t.2) left.1.1))
+
+    once_synced : IsTrue (tell_all state (p.first ∷ (p.second ∷ slots))) → AreBehindSync state (p.first ∷ (p.second ∷ slots)) (disks_in m logs ++ now ∷ later) → (images : List (List ℕ))
+        → OnceSynced state (first_disk m ∷ (second_disk m ∷ slots)) (disks_in m logs ++ now ∷ later) images → reads_in images ≡ with_first snapshot (reads_in (seen_of state (p.first ∷ (p.second ∷ slots))))
+    once_synced told behind [] w = absurd w
+    once_synced told behind (a ∷ []) w = absurd w
+    once_synced told behind (a ∷ (b ∷ images)) w =
+        let t = told_three state p.first p.second slots told in
+        reads_three
+        (manifest_reads state m p.images p.rests (told_of state m.side m.active.disk m.standby.disk (p.first_tells ∙ t.0) (p.second_tells ∙ t.1)) a b (only (first_disk m) a w.0) (only (second_disk m) b w.1) ∙ p.list t.0 t.1)
+        (slots_since state slots (map disk_of logs ++ now ∷ later) images (repaired_behind state limit s.disk now later why s.why s.before logs s.mounted t.2 behind) w.2)
+
     were : disks ≡ p.first ∷ (p.second ∷ (s.before ++ s.disk ∷ later))
     were = p.were ∙ ap (λ l. p.first ∷ (p.second ∷ l)) s.were
 

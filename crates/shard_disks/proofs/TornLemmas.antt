@@ -1,13 +1,13 @@
 -- What a commit that failed leaves of the bytes of its disk.
-use Rattle.std.proofs.Common.{◌≡◌, ℕ, zero, suc, ◌+◌, IsTrue, Result, List, [], ◌∷◌, length, map, get_or, slice_set, slice_index_or, Option, sym, ap, subst, ◌∙◌, arith}
+use Rattle.std.proofs.Common.{◌≡◌, ℕ, zero, suc, ◌+◌, IsTrue, Result, List, [], ◌∷◌, length, map, slice_set, slice_index_or, Option, subst, arith}
 use Rattle.outside.specs.DiskModel.{DiskState, Torn}
 use Rattle.gated_log.specs.PlainLog.{PlainLog}
 use Rattle.gated_log.specs.declared.refused.LogRefused.{LogRefused}
-use Rattle.pair_log.specs.PlainPair.{PlainPair, first_disk, second_disk}
+use Rattle.pair_log.specs.PlainPair.{PlainPair}
 use Rattle.shard_disks.specs.Calls.{IsTornTo, Told}
-use Rattle.shard_disks.specs.Images.{seen_of, tell_all}
+use Rattle.shard_disks.specs.Images.{seen_of}
 use Rattle.shard_disks.specs.Lists.{Moved}
-use Rattle.shard_disks.specs.Outline.{SlotOutline, slot_at}
+use Rattle.shard_disks.specs.Outline.{slot_at}
 use Rattle.shard_disks.specs.PlainDisks.{PlainDisks, disk_of, disks_in, outline_of}
 use Rattle.shard_disks.specs.SlotCalls.{CommitsLog}
 use Rattle.shard_disks.proofs.ImageLemmas.{told_both}

@@ -1,5 +1,5 @@
 -- What the calls do to the ten disks of a shard.
-use Rattle.std.specs.Prelude.{ℕ, ◌≡◌, ◌↔◌, ◌+◌, IsTrue, IfOk, IsErrOf, Result, Ok, OnOk, OnErr, List, [], ◌∷◌, ◌++◌, length, take, drop, slice_index_or, slice_set, Some, None}
+use Rattle.std.specs.Prelude.{ℕ, ◌≡◌, ◌↔◌, ◌+◌, IsTrue, IfOk, IsErrOf, Result, Ok, OnOk, OnErr, List, [], ◌∷◌, length, take, drop, slice_index_or, slice_set, Some, None}
 use Rattle.outside.specs.DiskModel.{DiskState, Torn, WritesNone}
 use Rattle.gated_log.specs.Calls as log
 use Rattle.gated_log.specs.PlainLog.{AtRest, InDoubt, doubted_length}

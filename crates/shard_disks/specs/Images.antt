@@ -34,6 +34,14 @@ WithinAll state [] [] [] = Unit {0}
 WithinAll state (d ∷ before) (e ∷ after) (image ∷ images) = left_between state d e image × WithinAll state before after images
 WithinAll state before after images = ⊥
 
+-- law: what stays as it was leaves what it may leave now
+pub stays_now : {D : Type 0} (state : D → DiskState) → ((disk : D) (image : List ℕ) → (state disk).left_since (state disk).calls image → (state disk).may_leave image)
+    → (disks : List D) (images : List (List ℕ)) → WithinAll state disks disks images → MayLeaveAll state disks images
+stays_now state only [] [] w = tt
+stays_now state only [] (image ∷ images) w = absurd w
+stays_now state only (d ∷ disks) [] w = absurd w
+stays_now state only (d ∷ disks) (image ∷ images) w = (only d image w.0, stays_now state only disks images w.1)
+
 -- what a mount would read from what a crash may leave has P
 abbrev pub AllRead : {D : Type 0} → (D → DiskState) → List D → (Reads → Type 0) → Type 0
 AllRead state disks P = (images : List (List ℕ)) → MayLeaveAll state disks images → P (reads_in images)

@@ -7,7 +7,7 @@ use Rattle.gated_log.specs.Calls.{EachMoment, ImagesHave, with_record}
 use Rattle.gated_log.specs.PlainLog.{AtRest, HasList, InDoubt, PlainLog, doubted_length, with_doubted}
 use Rattle.gated_log.specs.Stands.{IsBeforeOrAfter}
 use Rattle.gated_log.specs.declared.refused.LogRefused.{LogRefused}
-use Rattle.gated_log.specs.declared.refused.LogRefused.TheVariants.{Fault, Full}
+use Rattle.gated_log.specs.declared.refused.LogRefused.TheVariants.{Fault}
 use Rattle.gated_log.specs.declared.settled.Settled.{Settled}
 use Rattle.gated_log.specs.declared.settled.Settled.TheVariants.{In, Out}
 

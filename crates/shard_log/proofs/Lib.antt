@@ -9,3 +9,4 @@ mod AnswerLemmas
 mod ArmLemmas
 mod MountLemmas
 mod OnceLemmas
+mod CallLemmas

@@ -1,9 +1,9 @@
 -- What a mount leaves, and why it is refused.
-use Rattle.std.proofs.Common.{◌≡◌, ◌⊎◌, inl, inr, ℕ, zero, suc, ◌<◌, ◌≤◌, IsTrue, Ok, Err, None, List, [], ◌∷◌, length, map, refl, sym, ap, subst, ◌∙◌, arith}
+use Rattle.std.proofs.Common.{◌≡◌, ◌⊎◌, inl, inr, ℕ, zero, suc, ◌<◌, ◌≤◌, IsTrue, Result, Ok, Err, None, List, [], ◌∷◌, ◌++◌, length, take, drop, map, refl, sym, ap, subst, ◌∙◌, arith}
 use Rattle.std.specs.Prelude.{Vec}
 use Rattle.std.proofs.lemmas.List.{length-map}
 use Rattle.std.specs.declared.alloc.Global.{Global}
-use Rattle.outside.specs.Along.{keeps_weaker}
+use Rattle.outside.specs.Along.{Keeps, keeps_weaker}
 use Rattle.outside.specs.DiskModel.{DiskState}
 use Rattle.outside.specs.Torn.{torn_same}
 use Rattle.gated_log.specs.PlainLog.{AtRest, end_of}
@@ -26,9 +26,9 @@ use Rattle.shard_fold.specs.Potential.{potential}
 use Rattle.shard_disks.specs.declared.limits.Limits.{Limits}
 use Rattle.shard_disks.specs.Blame.{IsBlamedAt}
 use Rattle.shard_disks.specs.Calls.{Told}
-use Rattle.shard_disks.specs.Images.{WithinAll, faults_of, seen_of, tell_all}
+use Rattle.shard_disks.specs.Images.{MayLeaveAll, WithinAll, faults_of, seen_of, stays_now, tell_all}
 use Rattle.shard_disks.specs.Lists.{Pairwise}
-use Rattle.shard_disks.specs.Mounting.{AreMountTorn, MountsDisks, ReadsAsBefore, RefusesDisks, mounted_bytes, side_in}
+use Rattle.shard_disks.specs.Mounting.{AreBehindSync, AreMountTorn, LastStep, MountsDisks, OnceSynced, ReadsAsBefore, RefusesDisks, mounted_bytes, none_behind, side_in}
 use Rattle.shard_disks.specs.Outline.{Reads, SlotOutline, no_slot, reads_after, reads_in, reads_of, slot_in, with_first}
 use Rattle.shard_disks.specs.PlainDisks.{PlainDisks, all_disks, outline}
 use Rattle.shard_disks.specs.Stands.{SlotsStand}
@@ -37,11 +37,19 @@ use Rattle.shard_reading.specs.declared.unread.Unread.TheVariants as unread
 use Rattle.shard_reading.specs.Giving.{IsCause, IsWhy, unread_of}
 use Rattle.shard_reading.specs.Held.{IsOpeningTorn, begins, disk_place, held_in, with_opening}
 use Rattle.shard_reading.specs.Reading.{ReadsShard}
-use Rattle.shard_log.specs.Mounting.{HoldAsBefore, HoldList, IsMountBlamed, IsRefusal, Mounts, Refuses, disk_number, held_at, refusal_of}
+use Rattle.shard_log.specs.Mounting.{HaltsEarly, HaltsMounted, HoldAsBefore, HoldThis, IsMountBlamed, IsRefusal, MountMoments, Mounts, Refuses, disk_number, held_at, refusal_of}
 use Rattle.shard_log.specs.PlainShardLog.{IsDoubtOf, IsShardLog, PlainShardLog, end_after, end_with, known_by}
 use Rattle.shard_log.proofs.ListLemmas.{each_at}
 use Rattle.shard_log.proofs.PartLemmas.{tell_kept}
 use Rattle.shard_log.proofs.SettleLemmas.{known_same, sum_as}
+
+-- images that read as at the start hold what those held
+before_holds : {D : Type 0} (state : D → DiskState) (disks : List D) (asked : Asked) (images : List (List ℕ)) → ReadsAsBefore state disks (first_manifest asked) images → HoldAsBefore state disks asked images
+before_holds state disks asked images before = record { before = before.before; left = before.left; held = by before.reads }
+  where
+    by : (reads_in images ≡ reads_in before.before) ⊎ (reads_in images ≡ with_first (first_manifest asked) (reads_in before.before)) → held_at asked images ≡ held_at asked before.before
+    by (inl same) = ap (held_in asked) same
+    by (inr same) = ap (held_in asked) same ∙ manifest_is_first asked (reads_in before.before).manifest (reads_in before.before).slots
 
 -- ---- a mount that is done
 
@@ -59,12 +67,30 @@ module _ {D : Type 0} (state : D → DiskState) (disks : List D) (asked : Asked)
   begins_mid : IsTrue (tell_all state disks) → begins asked (reads_of (outline mid)) ≡ begins asked (with_first (first_manifest asked) found)
   begins_mid told = ap (begins asked) (mounts.list told)
 
-  before_holds : (images : List (List ℕ)) → ReadsAsBefore state disks (first_manifest asked) images → HoldAsBefore state disks asked images
-  before_holds images before = record { before = before.before; left = before.left; held = by before.reads }
-    where
-      by : (reads_in images ≡ reads_in before.before) ⊎ (reads_in images ≡ with_first (first_manifest asked) (reads_in before.before)) → held_at asked images ≡ held_at asked before.before
-      by (inl same) = ap (held_in asked) same
-      by (inr same) = ap (held_in asked) same ∙ manifest_is_first asked (reads_in before.before).manifest (reads_in before.before).slots
+  -- the moments of it, and of what was read then
+  moments_of : (new : PlainDisks D) (result : Result KeptIndex Unread) → ReadsShard state asked mid new result → (held : Folded ShardList) → IsTrue (tell_all state disks) → held_in asked (reads_of (outline mid)) ≡ held
+      → MountMoments state disks asked held new.past (all_disks new)
+  moments_of new result reads held told is = let last : LastStep state disks (reads_of (outline mid)) mid.past (all_disks mid) = mounts.last_step told in record {
+    earlier = last.earlier;
+    begun = last.begun;
+    mounted = all_disks mid;
+    untouched = last.untouched;
+    bytes = mounts.bytes told;
+    until = subst (λ past. Keeps (WithinAll state) (HoldAsBefore state disks asked) [] disks past (all_disks mid)) last.recorded
+        (keeps_weaker (WithinAll state) (ReadsAsBefore state disks (first_manifest asked)) (HoldAsBefore state disks asked) [] disks mid.past (all_disks mid) (before_holds state disks asked) (mounts.any_moment told));
+    synced = λ images left. ap (held_in asked) (last.synced images left) ∙ is;
+    there = λ images left. ap (held_in asked) (mounts.images told images left) ∙ is;
+    onwards = subst (λ past. Keeps (WithinAll state) (HoldThis asked held) past (all_disks mid) new.past (all_disks new)) last.recorded
+        (keeps_weaker (WithinAll state) (λ images. held_in asked (reads_in images) ≡ held_in asked (reads_of (outline mid))) (HoldThis asked held) mid.past (all_disks mid) new.past (all_disks new)
+        (λ images same. same ∙ is) (reads.any_moment (told_mid told)));
+  }
+
+  pub halts_mounted : (new : PlainDisks D) (result : Result KeptIndex Unread) → ReadsShard state asked mid new result → IsTrue (tell_all state disks) → HaltsMounted state disks asked (all_disks new)
+  halts_mounted new result reads told = record {
+    past = new.past;
+    moments = moments_of new result reads (held_at asked (seen_of state disks)) told (held_mid told);
+    left = λ images left. reads.holds (told_mid told) images left ∙ held_mid told;
+  }
 
   module _ (new : PlainDisks D) (index : KeptIndex) (reads : ReadsShard state asked mid new (Ok index)) where
     abbrev mounted : PlainShardLog D
@@ -82,15 +108,7 @@ module _ {D : Type 0} (state : D → DiskState) (disks : List D) (asked : Asked)
       shows = record { rests = reads.rests; none = refl };
       asked_kept = refl;
       images = λ told images left. inl (ap (held_in asked) (reads.images (told_back told) images left) ∙ held_new (told_back told));
-      moments = λ told. record {
-        mounted = all_disks mid;
-        between = mid.past;
-        bytes = mounts.bytes told;
-        until = keeps_weaker (WithinAll state) (ReadsAsBefore state disks (first_manifest asked)) (HoldAsBefore state disks asked) [] disks mid.past (all_disks mid) before_holds (mounts.any_moment told);
-        there = λ images left. ap (held_in asked) (mounts.images told images left) ∙ reads.exact (told_mid told);
-        onwards = keeps_weaker (WithinAll state) (λ images. held_in asked (reads_in images) ≡ held_in asked (reads_of (outline mid))) (HoldList asked (list_of index)) mid.past (all_disks mid) new.past (all_disks new)
-            (λ images same. same ∙ reads.exact (told_mid told)) (reads.any_moment (told_mid told));
-      };
+      moments = λ told. moments_of new (Ok index) reads (Holds (list_of index)) told (reads.exact (told_mid told));
       bytes = λ told.
           reads.bytes (told_mid told)
           ∙ (ap (λ b. with_opening b (seen_of state (all_disks mid))) (begins_mid told)
@@ -151,17 +169,33 @@ torn_nothing snapshot (first ∷ []) two = absurd (omega arith)
 torn_nothing snapshot (first ∷ (second ∷ bytes)) two = (mount_torn_same snapshot (records first) (records second) first, inl refl, gates_same bytes)
 
 module _ {D : Type 0} (state : D → DiskState) (disks : List D) (asked : Asked) where
-  pub refused_at_once : (same : Vec D Global) → same.items ≡ disks → length disks ≡ 10 → Refuses state disks asked (same, Memory)
-  refused_at_once same are ten = record {
+  pub refused_at_once : ((disk : D) (image : List ℕ) → (state disk).left_since (state disk).calls image → (state disk).may_leave image)
+      → (same : Vec D Global) → same.items ≡ disks → length disks ≡ 10 → Refuses state disks asked (same, Memory)
+  refused_at_once only same are ten = record {
     ten = ap length are ∙ ten;
     why = tt;
     cause = ap (faults_of state) are;
     bytes = λ told. inl (subst (AreMountTorn (first_manifest asked) (seen_of state disks)) (sym (ap (seen_of state) are)) (torn_nothing (first_manifest asked) (seen_of state disks) two));
+    moments = λ told. inl (subst (HaltsEarly state disks asked) (sym are) (record {
+      any_moment = λ images w. record { before = images; left = stays_now state only disks images w; held = refl };
+      left = λ images left. record { before = images; left = left; held = refl };
+      synced = λ behind images w. absurd (none_behind state disks (omega (arith, ten)) behind);
+    }));
     kept = record { tells = ap (λ ds. map (λ d. (state d).tells) ds) are; arms = ap (λ ds. map (λ d. (state d).arms) ds) are };
   }
     where
       two : 2 ≤ length (seen_of state disks)
       two = let long : length (seen_of state disks) ≡ length disks = length-map disks (λ d. (state d).seen) in omega arith
+
+  halts_early : (now : List D) → ((images : List (List ℕ)) → WithinAll state disks now images → ReadsAsBefore state disks (first_manifest asked) images)
+      → ((images : List (List ℕ)) → MayLeaveAll state now images → ReadsAsBefore state disks (first_manifest asked) images)
+      → (AreBehindSync state disks now → (images : List (List ℕ)) → OnceSynced state (take 2 now ++ drop 2 disks) now images → reads_in images ≡ with_first (first_manifest asked) (reads_in (seen_of state disks)))
+      → HaltsEarly state disks asked now
+  halts_early now moments left synced = record {
+    any_moment = λ images w. before_holds state disks asked images (moments images w);
+    left = λ images l. before_holds state disks asked images (left images l);
+    synced = λ behind images w. ap (held_in asked) (synced behind images w) ∙ manifest_is_first asked (reads_in (seen_of state disks)).manifest (reads_in (seen_of state disks)).slots;
+  }
 
   pub refused_disks : (back : Vec D Global) (place : ℕ) (why : LogRefused) → RefusesDisks state disks (first_manifest asked) (back, place, why) →
       Refuses state disks asked (back, refusal_of asked 0 (unread_of place why))
@@ -171,6 +205,7 @@ module _ {D : Type 0} (state : D → DiskState) (disks : List D) (asked : Asked)
     why = tt;
     cause = (place, refl, refuses.cause);
     bytes = λ told. inl (refuses.bytes told);
+    moments = λ told. inl (halts_early back.items (refuses.any_moment told) (refuses.images told) (refuses.synced told));
     kept = refuses.kept;
   }
   refused_disks back place log.Memory refuses = record {
@@ -178,6 +213,7 @@ module _ {D : Type 0} (state : D → DiskState) (disks : List D) (asked : Asked)
     why = tt;
     cause = no_rise place _ _ refuses.cause;
     bytes = λ told. inl (refuses.bytes told);
+    moments = λ told. inl (halts_early back.items (refuses.any_moment told) (refuses.images told) (refuses.synced told));
     kept = refuses.kept;
   }
 
@@ -209,6 +245,7 @@ module _ {D : Type 0} (state : D → DiskState) (disks : List D) (asked : Asked)
         (subst (λ l. IsOpeningTorn (begins asked (with_first (first_manifest asked) (reads_in (seen_of state disks)))) l (seen_of state (all_disks new))) (mounts.bytes told)
         (subst (λ b. IsOpeningTorn b (seen_of state (all_disks mid)) (seen_of state (all_disks new))) (ap (begins asked) (mounts.list told)) (reads.torn (told_mid state disks asked limits mid mounts told))))
         );
+    moments = λ told. inr (subst (HaltsMounted state disks asked) (sym are) (halts_mounted state disks asked limits mid mounts new (Err why) reads told));
     kept = record {
       tells = ap (λ ds. map (λ d. (state d).tells) ds) are ∙ (reads.disks.tells ∙ mounts.kept.tells);
       arms = ap (λ ds. map (λ d. (state d).arms) ds) are ∙ (reads.disks.arms ∙ mounts.kept.arms);

@@ -1,5 +1,5 @@
 -- A message whose identifier is awaited is stored once.
-use Rattle.std.proofs.Common.{◌≡◌, ℕ, ◌+◌, ◌<◌, ◌&&◌, ◌||◌, ◌==◌, nat_lt, not, Bool, true, false, if◌then◌else◌, List, [], ◌∷◌, filter, refl, sym, ap, ◌∙◌, bytes_eq, eqb-true, lt-ltb}
+use Rattle.std.proofs.Common.{◌≡◌, ◌⊎◌, inl, inr, ℕ, ◌+◌, ◌<◌, ◌&&◌, ◌||◌, ◌==◌, nat_lt, not, Bool, true, false, if◌then◌else◌, List, [], ◌∷◌, filter, refl, sym, ap, ◌∙◌, bytes_eq, eqb-true, lt-ltb}
 use Rattle.std.specs.List.{list_any}
 use Rattle.std.proofs.lemmas.Bool.{and_parts}
 use Rattle.std.proofs.lemmas.List.Folds.{list_any-append}
@@ -9,7 +9,7 @@ use Rattle.topic_terms.specs.StoredMessage.{StoredMessage}
 use Rattle.shard_terms.specs.ShardList.{Awaited, ShardList}
 use Rattle.shard_terms.specs.Storing.{Op, Store, Release, Forget, act_if, acts, awaits, becomes_awaited, is_awaited_as, is_message_of, is_of, store, triple_of}
 use Rattle.shard_index.specs.Triples.{same_triple, same_triple_is}
-use Rattle.shard_log.specs.StoredOnce.{Event, Appended, Left, is_awaited, list_after, once_if, times_after, times_by, times_in_group}
+use Rattle.shard_log.specs.StoredOnce.{Append, Appended, AreEventsOf, Call, ComesBy, ComesOf, Event, IsEventOf, IsRun, IsStoredOnce, Left, Mount, Tick, is_awaited, list_after, once_if, times_after, times_by, times_in_group}
 
 -- ---- a message
 
@@ -169,3 +169,59 @@ pub stored_once : (a : Awaited) (list : ShardList) (events : List Event) (n : �
 stored_once a list [] n some is = is
 stored_once a list (Appended ops now ∷ events) n some is = stored_once a (store list ops now) events (times_in_group a list ops now n) some (group_once a some ops list now n is)
 stored_once a list (Left ∷ events) n some is = stored_once a list events n some is
+
+-- ---- calls
+
+-- where a list comes from by calls
+record IsReached (known stored : ShardList) (calls : List Call) (now : ShardList) : Type 0 where
+  list : ShardList
+  either : (list ≡ known) ⊎ (list ≡ stored)
+  events : List Event
+  of_calls : AreEventsOf calls events
+  reached : now ≡ list_after list events
+
+-- what came of one call
+event_of : (call : Call) (list new : ShardList) → ComesBy call list new → (event : Event) × IsEventOf call event × (new ≡ list_after list (event ∷ []))
+event_of (Append ops now) list new (inl same) = (Left, inl refl, same)
+event_of (Append ops now) list new (inr in_it) = (Appended ops now, inr refl, in_it)
+event_of Tick list new same = (Left, refl, same)
+event_of Mount list new same = (Left, refl, same)
+
+after_one : (list : ShardList) (event : Event) (events : List Event) → list_after (list_after list (event ∷ [])) events ≡ list_after list (event ∷ events)
+after_one list (Appended ops now) events = refl
+after_one list Left events = refl
+
+one_call : (call : Call) (calls : List Call) (known stored mid now : ShardList) (events : List Event) → ComesOf call known stored mid → AreEventsOf calls events → now ≡ list_after mid events
+    → IsReached known stored (call ∷ calls) now
+one_call call calls known stored mid now events comes of_calls reached =
+    let found = event_of call comes.0 mid comes.2 in
+    record {
+      list = comes.0;
+      either = comes.1;
+      events = found.0 ∷ events;
+      of_calls = (found.1, of_calls);
+      reached = reached ∙ (ap (λ l. list_after l events) found.2 ∙ after_one comes.0 found.0 events);
+    }
+
+reach : (calls : List Call) (known stored known_now stored_now now : ShardList) → IsRun known stored calls known_now stored_now → (now ≡ known_now) ⊎ (now ≡ stored_now) → IsReached known stored calls now
+reach [] known stored known_now stored_now now run (inl e) = record { list = known; either = inl refl; events = []; of_calls = tt; reached = e ∙ run.0 }
+reach [] known stored known_now stored_now now run (inr e) = record { list = stored; either = inr refl; events = []; of_calls = tt; reached = e ∙ run.1 }
+reach (call ∷ calls) known stored known_now stored_now now (known_then, stored_then, first, second, rest) which =
+    behind (reach calls known_then stored_then known_now stored_now now rest which)
+  where
+    behind : IsReached known_then stored_then calls now → IsReached known stored (call ∷ calls) now
+    behind r = by r.either
+      where
+        by : (r.list ≡ known_then) ⊎ (r.list ≡ stored_then) → IsReached known stored (call ∷ calls) now
+        by (inl e) = one_call call calls known stored known_then now r.events first r.of_calls (r.reached ∙ ap (λ l. list_after l r.events) e)
+        by (inr e) = one_call call calls known stored stored_then now r.events second r.of_calls (r.reached ∙ ap (λ l. list_after l r.events) e)
+
+pub calls_once : (a : Awaited) (list known stored now : ShardList) (calls : List Call) (n : ℕ) → 0 < a.id → n ≡ once_if (is_awaited a list) → IsRun list list calls known stored
+    → (now ≡ known) ⊎ (now ≡ stored) → IsStoredOnce a list calls n now
+calls_once a list known stored now calls n some is run which = from (reach calls list list known stored now run which)
+  where
+    from : IsReached list list calls now → IsStoredOnce a list calls n now
+    from r =
+        let same : r.list ≡ list = elim r.either [ inl e ↦ e | inr e ↦ e ] in
+        let reached : now ≡ list_after list r.events = r.reached ∙ ap (λ l. list_after l r.events) same in
+        record { events = r.events; of_calls = r.of_calls; reached = reached; once = stored_once a list r.events n some is ∙ ap (λ l. once_if (is_awaited a l)) (sym reached) }

@@ -1,5 +1,5 @@
 -- What was planned is stored.
-use Rattle.std.proofs.Common.{◌≡◌, ◌⊎◌, inl, inr, ℕ, ◌+◌, ◌≤◌, Bool, true, false, if◌then◌else◌, IsErrOf, Result, Ok, Err, OnOk, OnErr, List, [], ◌∷◌, length, map, refl, sym, ap, subst, ◌∙◌, Option, Some, None}
+use Rattle.std.proofs.Common.{◌≡◌, ◌⊎◌, inl, inr, ℕ, ◌+◌, ◌≤◌, Bool, true, false, if◌then◌else◌, IsErrOf, Result, Ok, Err, OnOk, OnErr, List, [], ◌∷◌, length, refl, sym, ap, subst, ◌∙◌, Option, Some, None}
 use Rattle.outside.specs.DiskModel.{DiskState}
 use Rattle.outside.specs.Results.{on_ok_then}
 use Rattle.topic_terms.specs.Profile.{whole}

@@ -1,5 +1,5 @@
 -- What a shard is mounted from, and what a mount answers.
-use Rattle.std.specs.Prelude.{ℕ, ◌≡◌, ◌⊎◌, ◌+◌, ◌*◌, IsTrue, List, [], length, Vec}
+use Rattle.std.specs.Prelude.{ℕ, ◌≡◌, ◌⊎◌, ◌+◌, ◌*◌, IsTrue, List, [], ◌∷◌, ◌++◌, length, take, drop, Vec}
 use Rattle.std.specs.declared.alloc.Global.{Global}
 use Rattle.outside.specs.Along.{Keeps}
 use Rattle.outside.specs.DiskModel.{DiskState}
@@ -15,7 +15,7 @@ use Rattle.shard_fold.specs.declared.unread.Where.{Where}
 use Rattle.shard_fold.specs.Fold.{Folded, Holds, IsDamaged, HasAnother, first_manifest}
 use Rattle.shard_disks.specs.Blame.{IsBlamedAt}
 use Rattle.shard_disks.specs.Images.{KeepsDisks, MayLeaveAll, WithinAll, faults_of, seen_of, tell_all}
-use Rattle.shard_disks.specs.Mounting.{AreMountTorn, mounted_bytes, side_in}
+use Rattle.shard_disks.specs.Mounting.{AreBehindSync, AreMountTorn, OnceSynced, mounted_bytes, side_in}
 use Rattle.shard_disks.specs.Outline.{reads_in, with_first}
 use Rattle.shard_disks.specs.PlainDisks.{all_disks}
 use Rattle.shard_reading.specs.declared.unread.Unread.{Unread}
@@ -66,20 +66,39 @@ pub record HoldAsBefore {D : Type 0} (state : D → DiskState) (disks : List D) 
   pub left : MayLeaveAll state disks before
   pub held : held_at asked images ≡ held_at asked before
 
--- ten images hold the list
-abbrev pub HoldList : Asked → ShardList → List (List ℕ) → Type 0
-HoldList asked list images = held_at asked images ≡ Holds list
+-- ten images hold this
+abbrev pub HoldThis : Asked → Folded ShardList → List (List ℕ) → Type 0
+HoldThis asked held images = held_at asked images ≡ held
 
--- The moments of a mount of these disks, which ended with this history and these ones. At one of them all ten logs were mounted, so that each disk was
--- synced: a closed gate stands behind its records, and the manifest's first snapshot is there. Up to then ten images hold what some held at the start;
--- from then on each ten hold the list.
-pub record MountMoments {D : Type 0} (state : D → DiskState) (disks : List D) (asked : Asked) (list : ShardList) (past : List (List D)) (now : List D) : Type 0 where
+-- The moments of a mount of these disks, of which all ten were mounted, up to these states of them. In one of its steps the logs of the slots are
+-- mounted: from the disks `begun`, among which those of the slots are as they were, to the disks `mounted`. Up to the end of that step ten images hold
+-- what some held at the start. In it, once the sync of each disk has been done, ten images hold what the records held at the start (`held`), and so does
+-- each ten from its end on.
+pub record MountMoments {D : Type 0} (state : D → DiskState) (disks : List D) (asked : Asked) (held : Folded ShardList) (past : List (List D)) (now : List D) : Type 0 where
+  pub earlier : List (List D)
+  pub begun : List D
   pub mounted : List D
-  pub between : List (List D)
+  pub untouched : drop 2 begun ≡ drop 2 disks
   pub bytes : seen_of state mounted ≡ mounted_bytes (first_manifest asked) (seen_of state disks)
-  pub until : Keeps (WithinAll state) (HoldAsBefore state disks asked) [] disks between mounted
-  pub there : (images : List (List ℕ)) → MayLeaveAll state mounted images → HoldList asked list images
-  pub onwards : Keeps (WithinAll state) (HoldList asked list) between mounted past now
+  pub until : Keeps (WithinAll state) (HoldAsBefore state disks asked) [] disks (earlier ++ begun ∷ []) mounted
+  pub synced : (images : List (List ℕ)) → OnceSynced state begun mounted images → HoldThis asked held images
+  pub there : (images : List (List ℕ)) → MayLeaveAll state mounted images → HoldThis asked held images
+  pub onwards : Keeps (WithinAll state) (HoldThis asked held) (earlier ++ begun ∷ []) mounted past now
+
+-- A mount was refused before all ten disks were mounted. Images that they might have left at any moments of it, the same one or each another, hold what
+-- some held at the start, and so do those that they may leave then. Once each disk was synced, they hold what the disks held.
+pub record HaltsEarly {D : Type 0} (state : D → DiskState) (disks : List D) (asked : Asked) (now : List D) : Type 0 where
+  pub any_moment : (images : List (List ℕ)) → WithinAll state disks now images → HoldAsBefore state disks asked images
+  pub left : (images : List (List ℕ)) → MayLeaveAll state now images → HoldAsBefore state disks asked images
+  pub synced :
+      AreBehindSync state disks now →
+      (images : List (List ℕ)) → OnceSynced state (take 2 now ++ drop 2 disks) now images → HoldThis asked (held_at asked (seen_of state disks)) images
+
+-- A mount was refused behind that. Its disks came back without their history, so it is told that there is one.
+pub record HaltsMounted {D : Type 0} (state : D → DiskState) (disks : List D) (asked : Asked) (now : List D) : Type 0 where
+  pub past : List (List D)
+  pub moments : MountMoments state disks asked (held_at asked (seen_of state disks)) past now
+  pub left : (images : List (List ℕ)) → MayLeaveAll state now images → HoldThis asked (held_at asked (seen_of state disks)) images
 
 -- The bytes after a mount: the disks' gates are closed, and of a new shard the two first records are there.
 abbrev pub bytes_mounted : Asked → List (List ℕ) → List (List ℕ)
@@ -91,22 +110,24 @@ AreLeftTorn asked old new =
     AreMountTorn (first_manifest asked) old new
     ⊎ IsOpeningTorn (begins asked (with_first (first_manifest asked) (reads_in old))) (mounted_bytes (first_manifest asked) old) new
 
--- A mount gives the list that the disks' records hold, and each ten images hold it, from the moment on at which its ten logs are mounted. Before that ten
--- images hold what some held at its start. It writes gates and first records, and nothing else.
+-- A mount gives the list that the disks' records hold, and each ten images hold it, once each disk was synced. Before that ten images hold what some
+-- held at its start. It writes gates and first records, and nothing else.
 pub record Mounts {D : Type 0} (state : D → DiskState) (disks : List D) (asked : Asked) (new : PlainShardLog D) : Type 0 where
   pub holds : IsTrue (tell_all state disks) → held_at asked (seen_of state disks) ≡ Holds (shown new)
   pub shows : IsShown new
   pub asked_kept : new.asked ≡ asked
   pub images : ImagesHold state new (shown new) (shown new)
-  pub moments : IsTrue (tell_all state disks) → MountMoments state disks asked (shown new) new.disks.past (all_disks new.disks)
+  pub moments : IsTrue (tell_all state disks) → MountMoments state disks asked (Holds (shown new)) new.disks.past (all_disks new.disks)
   pub bytes : IsTrue (tell_all state disks) → seen_of state (all_disks new.disks) ≡ bytes_mounted asked (seen_of state disks)
   pub kept : KeepsDisks state disks (all_disks new.disks)
   pub faults : faults_of state (all_disks new.disks) ≡ faults_of state disks
 
--- A refused mount hands all disks back in their order, and tells why: what their records hold, or a fault of one of them.
+-- A refused mount hands all disks back in their order, and tells why: what their records hold, or a fault of one of them. Its moments are told too, and
+-- what a crash may leave then.
 pub record Refuses {D : Type 0} (state : D → DiskState) (disks : List D) (asked : Asked) (refused : Vec D Global × MountRefused) : Type 0 where
   pub ten : length refused.0.items ≡ 10
   pub why : IsRefusal (IsTrue (tell_all state disks)) asked (side_in (seen_of state disks)) (held_at asked (seen_of state disks)) refused.1
   pub cause : IsMountBlamed asked refused.1 (faults_of state disks) (faults_of state refused.0.items)
   pub bytes : IsTrue (tell_all state disks) → AreLeftTorn asked (seen_of state disks) (seen_of state refused.0.items)
+  pub moments : IsTrue (tell_all state disks) → HaltsEarly state disks asked refused.0.items ⊎ HaltsMounted state disks asked refused.0.items
   pub kept : KeepsDisks state disks refused.0.items

@@ -1,5 +1,5 @@
 -- The opening of a new shard, written or not.
-use Rattle.std.proofs.Common.{◌≡◌, ℕ, ◌+◌, ◌<◌, Bool, true, false, IsErrOf, List, [], ◌∷◌, Ok, Err, length, map, slice_index_or, slice_set, refl, sym, ap, subst, ◌∙◌, arith}
+use Rattle.std.proofs.Common.{◌≡◌, inl, inr, ℕ, ◌+◌, ◌<◌, Bool, true, false, IsErrOf, List, [], ◌∷◌, Ok, Err, length, map, slice_index_or, slice_set, refl, sym, ap, subst, ◌∙◌, arith}
 use Rattle.std.specs.Prelude.{None, OnErr}
 use Rattle.outside.specs.Along.{Keeps, keeps_at_first}
 use Rattle.outside.specs.DiskModel.{DiskState, Torn}
@@ -52,6 +52,7 @@ not_begun state d b is rests eight limits images = subst (λ b. BeginsShard stat
   torn = λ told. refl;
   any_moment = λ told. keeps_at_first (WithinAll state) (λ images. IsEither (reads_of (outline d)) (reads_of (outline d)) (reads_in images)) d.past (all_disks d);
   images = images;
+  images_either = λ told read left. inl (images told read left);
   disks = record { tells = refl; arms = refl };
   cause = refl;
 })
@@ -134,9 +135,10 @@ pub torn_none : (bytes : List ℕ) → Torn 0 25 bytes bytes
 torn_none bytes = record { before = refl; after = refl; no_shorter = omega arith; no_longer = omega arith }
 
 pub refused_early : {D : Type 0} (state : D → DiskState) (old new : PlainDisks D) (why : Unread) → IsReserved old new → length (outline old).slots ≡ 8
-    → EachHas HasSlotBytes (outline old).slots → (Told state old → IsOutside why) → ((before now : List ℕ) → now ≡ before → IsCause why before now)
+    → EachHas HasSlotBytes (outline old).slots → (Told state old → AllRead state (all_disks old) (λ reads. reads ≡ reads_of (outline old)))
+    → (Told state old → IsOutside why) → ((before now : List ℕ) → now ≡ before → IsCause why before now)
     → BeginsShard state true old new (Err why)
-refused_early state old new why was eight limits told cause = record {
+refused_early state old new why was eight limits images told cause = record {
   reads = tt;
   kept = λ told. reserved_reads old new was;
   told = told;
@@ -150,6 +152,8 @@ refused_early state old new why was eight limits told cause = record {
   any_moment = λ told. moments_from state (λ images. IsEither (reads_of (outline old)) (with_record 0 first_opening (reads_of (outline old))) (reads_in images)) old new new was
       (keeps_at_first (WithinAll state) (λ images. IsEither (reads_of (outline old)) (with_record 0 first_opening (reads_of (outline old))) (reads_in images)) new.past (all_disks new));
   images = tt;
+  images_either = λ told. subst (λ ds. AllRead state ds (IsEither (reads_of (outline old)) (with_record 0 first_opening (reads_of (outline old))))) (sym was.disks)
+      (λ read left. inl (images told read left));
   disks = record { tells = ap (tells_of state) was.disks; arms = ap (arms_of state) was.disks };
   cause = cause (faults_of state (all_disks old)) (faults_of state (all_disks new)) (ap (faults_of state) was.disks);
 }
@@ -205,6 +209,7 @@ module _ {D : Type 0} (state : D → DiskState) (old mid new : PlainDisks D) (dr
     torn = λ told. torn_to (torn (told_mid told));
     any_moment = moments commits.any_moment;
     images = λ told. commits.images (told_mid told);
+    images_either = λ told read left. inr (commits.images (told_mid told) read left ∙ (commits.list (told_mid told) ∙ with_it));
     disks = keeps commits.disks;
     cause = commits.cause.kept (λ e. cc) ∙ ap (faults_of state) was.disks;
   }
@@ -223,6 +228,10 @@ module _ {D : Type 0} (state : D → DiskState) (old mid new : PlainDisks D) (dr
     torn = λ told. torn_to (torn (told_mid told));
     any_moment = moments commits.any_moment;
     images = tt;
+    images_either = λ told read left. elim (commits.images_either (told_mid told) read left) [
+      | inl e ↦ inl (e ∙ (commits.kept (told_mid told) ∙ reserved_reads old mid was))
+      | inr e ↦ inr (e ∙ (commits.after (told_mid told) ∙ with_it))
+    ];
     disks = keeps commits.disks;
     cause = subst (λ l. IsBlamedAt 2 refused.Fault l (faults_of state (all_disks new))) (ap (faults_of state) was.disks)
         (subst (λ w. IsBlamedAt 2 w (faults_of state (all_disks mid)) (faults_of state (all_disks new))) (is_fault why commits.only_fault) blame);

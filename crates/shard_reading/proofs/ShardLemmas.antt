@@ -15,7 +15,7 @@ use Rattle.shard_fold.specs.declared.limits.TheConstants.{MOST_SLOT}
 use Rattle.shard_fold.specs.Potential.{potential}
 use Rattle.shard_fold.specs.FoldLaws.{folded_by, new_shard, newest_slot}
 use Rattle.shard_disks.specs.Calls.{IsRead, Told}
-use Rattle.shard_disks.specs.Images.{EachMoment, KeepsDisks, WithinAll, faults_of, seen_of}
+use Rattle.shard_disks.specs.Images.{AllRead, EachMoment, KeepsDisks, WithinAll, faults_of, seen_of}
 use Rattle.shard_disks.specs.Lists.{EachHas}
 use Rattle.shard_disks.specs.Outline.{IsEither, Outline, Reads, SlotOutline, payloads_of, reads_in, reads_of, slot_at, slot_in}
 use Rattle.shard_disks.specs.PlainDisks.{PlainDisks, all_disks, outline}
@@ -128,6 +128,7 @@ record Stays {D : Type 0} (state : D → DiskState) (asked : Asked) (old new : P
   side : (outline new).side ≡ (outline old).side
   torn : Told state old → IsOpeningTorn (begins asked (reads_of (outline old))) (seen_of state (all_disks old)) (seen_of state (all_disks new))
   any_moment : EachMoment state old new (λ reads. held_in asked reads ≡ held_in asked (reads_of (outline old)))
+  holds : Told state old → AllRead state (all_disks new) (λ reads. held_in asked reads ≡ held_in asked (reads_of (outline old)))
   disks : KeepsDisks state (all_disks old) (all_disks new)
 
 read_stays : {D : Type 0} (state : D → DiskState) (asked : Asked) (old new : PlainDisks D) → length (outline old).slots ≡ 8 → EachHas HasSlotBytes (outline old).slots
@@ -141,6 +142,7 @@ read_stays state asked old new eight limits read = record {
       (torn_same (begins asked (reads_of (outline old))) (seen_of state (all_disks old)));
   any_moment = λ told. keeps_weaker (WithinAll state) (λ images. reads_in images ≡ reads_of (outline old)) (λ images. held_in asked (reads_in images) ≡ held_in asked (reads_of (outline old)))
       old.past (all_disks old) new.past (all_disks new) (λ images e. ap (held_in asked) e) (read.any_moment told);
+  holds = λ told images left. ap (held_in asked) (read.images told images left ∙ ap reads_of read.stays);
   disks = read.disks;
 }
 
@@ -155,6 +157,7 @@ stays_read state asked old mid new was read = record {
       old.past (all_disks old) mid.past (all_disks mid) new.past (all_disks new) (was.any_moment told)
       (keeps_weaker (WithinAll state) (λ images. reads_in images ≡ reads_of (outline mid)) (λ images. held_in asked (reads_in images) ≡ held_in asked (reads_of (outline old)))
       mid.past (all_disks mid) new.past (all_disks new) (λ images e. ap (held_in asked) e ∙ was.same told) (read.any_moment (told_kept state old mid was.disks told)));
+  holds = λ told images left. ap (held_in asked) (read.images (told_kept state old mid was.disks told) images left ∙ ap reads_of read.stays) ∙ was.same told;
   disks = keeps_then state (all_disks old) (all_disks mid) (all_disks new) was.disks read.disks;
 }
 
@@ -213,6 +216,7 @@ module _ {D : Type 0} (state : D → DiskState) (asked : Asked) (old mid : Plain
         (keeps_weaker (WithinAll state) (λ images. IsEither (reads_of (outline mid)) (begun new_one (reads_of (outline mid))) (reads_in images))
         (λ images. held_in asked (reads_in images) ≡ held_in asked (reads_of (outline old)))
         mid.past (all_disks mid) new.past (all_disks new) (λ images either. held_either told (reads_in images) either) (begins.any_moment (told_mid told)));
+    holds = λ told images left. held_either told (reads_in images) (begins.images_either (told_mid told) images left);
     disks = keeps_then state (all_disks old) (all_disks mid) (all_disks new) read.looks.read.disks begins.disks;
   }
 
@@ -232,6 +236,7 @@ module _ {D : Type 0} (state : D → DiskState) (asked : Asked) (old mid : Plain
         torn = stays.torn;
         any_moment = stays.any_moment;
         images = tt;
+        holds = stays.holds;
         disks = stays.disks;
         cause = subst (λ l. IsCause why l (faults_of state (all_disks new))) read.looks.cause begins.cause;
       }
@@ -292,6 +297,7 @@ module _ {D : Type 0} (state : D → DiskState) (asked : Asked) (old mid : Plain
           torn = stays.torn;
           any_moment = stays.any_moment;
           images = on_ok result (λ told. reads.looks.read.images (told_third told));
+          holds = stays.holds;
           disks = stays.disks;
           cause = blamed_then (faults_of state (all_disks old)) (faults_of state (all_disks third)) (faults_of state (all_disks new)) result
               (begun_so.cause ∙ read.looks.cause) reads.looks.cause;
@@ -320,6 +326,7 @@ cuts_unread state asked old new why eight limits reads =
       torn = stays.torn;
       any_moment = stays.any_moment;
       images = tt;
+      holds = stays.holds;
       disks = stays.disks;
       cause = reads.looks.cause;
     }

@@ -30,7 +30,7 @@ pub record IsIndexOf {D : Type 0} (state : D → DiskState) (asked : Asked) (d :
   pub room : (slot_in (outline d) (newest_slot index.cuts)).end + potential (list_of index) ≤ MOST_SLOT
 
 -- The list that the records hold, or why they hold none. Of a new shard the opening of its first generation is written; nothing else is. At each
--- moment the images hold what the records held.
+-- moment the images hold what the records held, and so do those that a crash may leave then, also where it is refused.
 pub record ReadsShard {D : Type 0} (state : D → DiskState) (asked : Asked) (old new : PlainDisks D) (result : Result KeptIndex Unread) : Type 0 where
   pub exact : Told state old → Gives list_of result (held_in asked (reads_of (outline old)))
   pub same : Told state old → held_in asked (reads_of (outline new)) ≡ held_in asked (reads_of (outline old))
@@ -43,5 +43,6 @@ pub record ReadsShard {D : Type 0} (state : D → DiskState) (asked : Asked) (ol
   pub torn : Told state old → IsOpeningTorn (begins asked (reads_of (outline old))) (seen_of state (all_disks old)) (seen_of state (all_disks new))
   pub any_moment : EachMoment state old new (λ reads. held_in asked reads ≡ held_in asked (reads_of (outline old)))
   pub images : OnOk result (Told state old → AllRead state (all_disks new) (λ reads. reads ≡ reads_of (outline new)))
+  pub holds : Told state old → AllRead state (all_disks new) (λ reads. held_in asked reads ≡ held_in asked (reads_of (outline old)))
   pub disks : KeepsDisks state (all_disks old) (all_disks new)
   pub cause : IsReadBlamed (faults_of state (all_disks old)) (faults_of state (all_disks new)) result

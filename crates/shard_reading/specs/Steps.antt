@@ -77,5 +77,6 @@ pub record BeginsShard {D : Type 0} (state : D → DiskState) (new_shard : Bool)
   pub torn : Told state old → IsOpeningTorn new_shard (seen_of state (all_disks old)) (seen_of state (all_disks new))
   pub any_moment : EachMoment state old new (IsEither (reads_of (outline old)) (begun new_shard (reads_of (outline old))))
   pub images : OnOk result (Told state old → AllRead state (all_disks new) (λ reads. reads ≡ reads_of (outline new)))
+  pub images_either : Told state old → AllRead state (all_disks new) (IsEither (reads_of (outline old)) (begun new_shard (reads_of (outline old))))
   pub disks : KeepsDisks state (all_disks old) (all_disks new)
   pub cause : IsReadBlamed (faults_of state (all_disks old)) (faults_of state (all_disks new)) result

@@ -1,4 +1,4 @@
-use Rattle.std.proofs.Common.{◌≡◌, ◌+◌, ◌≤◌, IsErrOf, OnErr, arith, length, subst}
+use Rattle.std.proofs.Common.{◌+◌, ◌≤◌, IsErrOf, OnErr, arith, length, subst}
 use Rattle.gated_log.specs.declared.refused.LogRefused.TheVariants.{Fault}
 use Rattle.shard_disks.specs.Outline.{SlotOutline, no_slot}
 use Rattle.shard_disks.specs.PlainDisks.{outline_of}

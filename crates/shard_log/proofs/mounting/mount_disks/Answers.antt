@@ -9,7 +9,7 @@ use Rattle.shard_log.proofs.MountLemmas.{refused_at_once, refused_disks}
 use Rattle.shard_log.proofs.mounting.mount_disks.Goals as goal
 
 pub returns-in-Err-clause-refuses : goal.returns-in-Err-clause-refuses
-returns-in-Err-clause-refuses g c = refused_at_once g.D.Disk.state c.args.disks.items c.args.asked c.args.disks refl c.requires.ten
+returns-in-Err-clause-refuses g c = refused_at_once g.D.Disk.state c.args.disks.items c.args.asked g.met.D.Disk.only_now c.args.disks refl c.requires.ten
 
 pub returns-in-Ok-mount-clause-mounts : goal.returns-in-Ok-mount-clause-mounts
 returns-in-Ok-mount-clause-mounts g c =

@@ -93,3 +93,6 @@ returns-in-Err-find_epochs-clause-first_torn g c = λ first_told second_told.
     (subst (λ l. IsWrittenTorn s l (records (state c.args.second).seen) (state c.in-Ok.log.disk).seen (state c.find_epochs.new.first.disk).seen) (c.in-Ok.ensures.list first_told)
     (subst (λ l. IsWrittenTorn s c.in-Ok.log.payloads l (state c.in-Ok.log.disk).seen (state c.find_epochs.new.first.disk).seen) (c.in-Ok-mount.ensures.list second_told)
     (c.find_epochs.ensures.first_torn first))))
+
+pub returns-in-Ok-find_epochs-clause-past : goal.returns-in-Ok-find_epochs-clause-past
+returns-in-Ok-find_epochs-clause-past g c = c.of_logs.ensures.past ∙ (c.and_both-past.ensures ∙ ap (λ l. l ++ (c.args.first, c.args.second) ∷ []) c.new.ensures)

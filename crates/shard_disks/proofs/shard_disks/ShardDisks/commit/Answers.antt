@@ -1,4 +1,4 @@
-use Rattle.std.proofs.Common.{◌≡◌, ◌<◌, None, Some, Ok, Err, Result, ap, arith, refl, length, ◌∙◌}
+use Rattle.std.proofs.Common.{Some, Ok, Err, ap, arith, refl, ◌∙◌}
 use Rattle.shard_disks.specs.PlainDisks.{PlainDisks, all_mounted}
 use Rattle.shard_disks.proofs.CommitLemmas.{commits_to, committed_disks, failed_disks}
 use Rattle.shard_disks.proofs.HistoryLemmas.{one_more}

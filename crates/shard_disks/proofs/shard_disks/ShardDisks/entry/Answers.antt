@@ -1,4 +1,4 @@
-use Rattle.std.proofs.Common.{◌≡◌, ◌<◌, None, ap, arith, length, ◌∙◌}
+use Rattle.std.proofs.Common.{ap, arith, ◌∙◌}
 use Rattle.shard_disks.specs.PlainDisks.{PlainDisks, all_mounted}
 use Rattle.shard_disks.proofs.HistoryLemmas.{one_more}
 use Rattle.shard_disks.proofs.ReadLemmas.{read_blamed, read_bytes, read_disks, slot_read}

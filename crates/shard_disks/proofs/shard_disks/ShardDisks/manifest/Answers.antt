@@ -1,4 +1,4 @@
-use Rattle.std.proofs.Common.{◌≡◌, None, ap, ◌∙◌}
+use Rattle.std.proofs.Common.{ap, ◌∙◌}
 use Rattle.shard_disks.specs.PlainDisks.{PlainDisks, all_mounted}
 use Rattle.shard_disks.proofs.HistoryLemmas.{one_more}
 use Rattle.shard_disks.proofs.ManifestLemmas.{manifest_blamed, manifest_read}

@@ -6,11 +6,11 @@ use Rattle.shard_disks.proofs.RefuseLemmas.{logs_then, none_mounted, pair_refuse
 use Rattle.shard_disks.proofs.shard_disks.ShardDisks.mount.Goals as goal
 
 pub returns-in-Err-clause-refuses : goal.returns-in-Err-clause-refuses
-returns-in-Err-clause-refuses g c = none_mounted g.D.Disk.state c.args.snapshot.now c.args.disks c.requires.ten
+returns-in-Err-clause-refuses g c = none_mounted g.D.Disk.state g.met.D.Disk.only_now c.args.snapshot.now c.args.disks c.requires.ten
 
 pub returns-in-Err-mount_manifest-clause-refuses : goal.returns-in-Err-mount_manifest-clause-refuses
 returns-in-Err-mount_manifest-clause-refuses g c =
-    pair_refused g.D.Disk.state c.args.snapshot.now c.args.disks.items c.mount_manifest.new.disks c.in-Err-mount_manifest.place c.in-Err-mount_manifest.why c.requires.ten
+    pair_refused g.D.Disk.state g.met.D.Disk.only_now g.met.D.Disk.reads_as_image g.met.D.Disk.counts_now c.args.snapshot.now c.args.disks.items c.mount_manifest.new.disks c.in-Err-mount_manifest.place c.in-Err-mount_manifest.why c.requires.ten
     c.in-Err-mount_manifest.ensures.refuses
 
 pub invariant_of-result : goal.invariant_of-result
@@ -54,5 +54,5 @@ returns-in-Ok-mount_slots-clause-mounts g c =
 pub returns-in-Err-mount_slots-clause-refuses : goal.returns-in-Err-mount_slots-clause-refuses
 returns-in-Err-mount_slots-clause-refuses g c =
     subst (λ n. RefusesDisks g.D.Disk.state c.args.disks.items c.args.snapshot.now (c.handed_back.result, 2 + n, c.in-Err-mount_slots.why)) (sym (c.len.ensures ∙ c.mount_slots.new.slots.ok.0))
-    (slot_refused g.D.Disk.state c.args.snapshot.now c.args.disks.items c.mount_manifest.new.disks.items c.mount_slots.new.disks.items c.args.limits.manifest c.args.limits.slot c.in-Ok-mount_manifest.manifest
+    (slot_refused g.D.Disk.state g.met.D.Disk.only_now g.met.D.Disk.reads_as_image g.met.D.Disk.counts_now c.args.snapshot.now c.args.disks.items c.mount_manifest.new.disks.items c.mount_slots.new.disks.items c.args.limits.manifest c.args.limits.slot c.in-Ok-mount_manifest.manifest
     c.mount_slots.new.slots.items c.in-Err-mount_slots.refused c.in-Err-mount_slots.why c.handed_back.result c.requires.ten c.in-Ok-mount_manifest.ensures.mounts c.in-Err-mount_slots.ensures.stopped c.handed_back.ensures)
