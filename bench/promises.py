@@ -8,7 +8,7 @@ missing. It ends with 1 where one is.
 A promise is a heading `### ..` with four items: `- call:`, `- definition:`, `- edits:` and `- tests:`. An item goes on over
 lines that are indented. What it names stands in backticks:
 
-- a call is FILE::FUNCTION, or FILE::TYPE::FUNCTION for a method. It is public. Where it has a `requires` with a name, `asks`
+- a call is FILE::FUNCTION, or FILE::TYPE::FUNCTION for a method. It is public, and the root of its library hands it on. Where it has a `requires` with a name, `asks`
   and all these names stand behind it. Then stand `clauses` and their names, or `its one clause`, which is a single `ensures`
   without a name.
 - a definition is FILE::NAME, or FILE::RECORD.FIELD. Behind a record may stand `fields` and their names. In a file of code
@@ -42,6 +42,7 @@ CODE = re.compile(r"```.*?```|`[^`\n]*`", re.S)
 HEADING = re.compile(r"^#+ (.*)$", re.M)
 PROMISE = re.compile(r"^### .*\n((?:[^#\n].*\n|\n)*)", re.M)
 FUNCTION = r"\s*(?:pub(?:\([^)]*\))? )?(?:const )?fn {}\b"
+USES = re.compile(r"^pub use [^;]*;", re.M)
 TYPES = re.compile(r"\b(?:impl(?:<.*?>)?|trait|for)\s+(\w+)")
 DEFINED = r"^ *(?:abbrev |unfoldable |pub |record |data )+{}\b"
 
@@ -116,11 +117,19 @@ def functions(name):
     return [at for at in found if not types or types == TYPES.findall(block_of(lines, at))[-1:]]
 
 
-def is_public(lines, at):
-    """Whether callers in other crates reach a function: one that says so, or one of a trait."""
+def is_exported(path, name):
+    """Whether the root of a library hands a name on to other crates. A program has no other crate above it."""
+    root = re.sub(r"/src/.*", "/src/lib.rt", path)
+    return not os.path.isfile(root) or root == path or any(re.search(rf"\b{name}\b", use) for use in USES.findall(text_of(root)))
+
+
+def is_public(path, at):
+    """Whether callers in other crates reach a function: one that says so, or one of a trait, where the root hands it or its type on."""
+    lines = lines_of(path)
     block = block_of(lines, at)
     is_of_trait = bool(re.search(r"\btrait\b", block)) or bool(re.search(r"^impl.*\bfor\b", block))
-    return bool(re.match(r"\s*pub (?:const )?fn", lines[at])) or is_of_trait
+    name = TYPES.findall(block)[-1] if block else re.search(r"fn (\w+)", lines[at]).group(1)
+    return (bool(re.match(r"\s*pub (?:const )?fn", lines[at])) or is_of_trait) and is_exported(path, name)
 
 
 def is_test(lines, at):
@@ -199,7 +208,7 @@ def look_at_call(report, place, name, clauses, group):
         return
     lines = lines_of(name.split("::")[0])
     text = header(lines, found[0])
-    report.look(place, f"{name} isn't public", is_public(lines, found[0]))
+    report.look(place, f"{name} isn't public", is_public(name.split("::")[0], found[0]))
     told = QUOTED.findall("".join(ASKS.split(BEHIND.split(group)[0])[1:]))
     report.look(place, f"{name} asks for {', '.join(asked_in(text)) or 'nothing with a name'}", told == asked_in(text))
     for clause in clauses:

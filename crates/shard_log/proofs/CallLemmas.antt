@@ -10,11 +10,11 @@ use Rattle.record_codec.specs.declared.group.Op.{Op}
 use Rattle.record_codec.specs.Records.{plain_ops}
 use Rattle.shard_fold.specs.declared.asked.Asked.{Asked}
 use Rattle.shard_fold.specs.Fold.{Holds}
-use Rattle.shard_disks.specs.Images.{seen_of, tell_all}
-use Rattle.shard_disks.specs.Outline.{Reads}
-use Rattle.shard_reading.specs.Held.{HoldsOne}
+use Rattle.shard_disks.specs.Images.{MayLeaveAll, seen_of, tell_all}
+use Rattle.shard_disks.specs.Outline.{Reads, reads_in}
+use Rattle.shard_reading.specs.Held.{HoldsEither, HoldsOne}
 use Rattle.shard_log.specs.Appending.{Appends, IsLeft, IsShown, Ticks}
-use Rattle.shard_log.specs.Mounting.{Mounts, held_at}
+use Rattle.shard_log.specs.Mounting.{HoldAsBefore, HoldThis, Mounts, held_at}
 use Rattle.shard_log.specs.Parts.{HoldsAmong}
 use Rattle.shard_log.specs.PlainShardLog.{PlainShardLog, known, known_by, shown, stored}
 use Rattle.shard_log.specs.StoredOnce.{Append, Call, ComesBy, ComesOf, Mount, Tick}
@@ -84,10 +84,31 @@ module _ {D : Type 0} (state : D → DiskState) (old new : PlainShardLog D) wher
       → (list : ShardList) × HoldsOne old.asked list reads × ComesOf Tick (known old) (stored old) list
   tick_cut result ticks reads holds = what_is_held Tick old new ticks.before ticks.before ticks.settled.either (λ list other e. e) (λ other e. e) old.asked reads holds
 
-pub mount_comes : {D : Type 0} (state : D → DiskState) (disks : List D) (asked : Asked) (list : ShardList) (new : PlainShardLog D) → Mounts state disks asked new
-    → IsTrue (tell_all state disks) → held_at asked (seen_of state disks) ≡ Holds list → ComesOf Mount list list (known new) × ComesOf Mount list list (stored new)
-mount_comes state disks asked list new mounts told holds =
-    let both = both_shown new mounts.shows in
-    let held : Holds (shown new) ≡ Holds list = sym (mounts.holds told) ∙ holds in
-    let same : shown new ≡ list = cc in
-    ((list, inl refl, both.0 ∙ same), (list, inl refl, both.1 ∙ same))
+module _ {D : Type 0} (state : D → DiskState) (disks : List D) (asked : Asked) (one other : ShardList) where
+  -- a list that is held as one of two
+  one_of_two : (images before : List (List ℕ)) → held_at asked images ≡ held_at asked before → HoldsEither asked one other (reads_in before)
+      → (list : ShardList) × HoldsOne asked list (reads_in images) × ComesOf Mount one other list
+  one_of_two images before same (inl holds) = (one, same ∙ holds, (one, inl refl, refl))
+  one_of_two images before same (inr holds) = (other, same ∙ holds, (other, inr refl, refl))
+
+  pub mount_comes : (new : PlainShardLog D) → Mounts state disks asked new → IsTrue (tell_all state disks) → HoldsEither asked one other (reads_in (seen_of state disks))
+      → ComesOf Mount one other (known new) × ComesOf Mount one other (stored new)
+  mount_comes new mounts told either = by either
+    where
+      both : (known new ≡ shown new) × (stored new ≡ shown new)
+      both = both_shown new mounts.shows
+
+      is : (list : ShardList) → held_at asked (seen_of state disks) ≡ Holds list → shown new ≡ list
+      is list holds = let held : Holds (shown new) ≡ Holds list = sym (mounts.holds told) ∙ holds in cc
+
+      by : HoldsEither asked one other (reads_in (seen_of state disks)) → ComesOf Mount one other (known new) × ComesOf Mount one other (stored new)
+      by (inl holds) = ((one, inl refl, both.0 ∙ is one holds), (one, inl refl, both.1 ∙ is one holds))
+      by (inr holds) = ((other, inr refl, both.0 ∙ is other holds), (other, inr refl, both.1 ∙ is other holds))
+
+  pub mount_cut : (images : List (List ℕ)) → HoldAsBefore state disks asked images → ((before : List (List ℕ)) → MayLeaveAll state disks before → HoldsEither asked one other (reads_in before))
+      → (list : ShardList) × HoldsOne asked list (reads_in images) × ComesOf Mount one other list
+  mount_cut images as_before held = one_of_two images as_before.before as_before.held (held as_before.before as_before.left)
+
+  pub mount_cut_synced : (images : List (List ℕ)) → HoldThis asked (held_at asked (seen_of state disks)) images → HoldsEither asked one other (reads_in (seen_of state disks))
+      → (list : ShardList) × HoldsOne asked list (reads_in images) × ComesOf Mount one other list
+  mount_cut_synced images same held = one_of_two images (seen_of state disks) same held

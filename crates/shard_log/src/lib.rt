@@ -11,12 +11,12 @@
 //!
 //! Read `specs/PlainShardLog.antt` first: the disks, the list that is shown, the one that is stored, and what every value
 //! keeps. Then `specs/Appending.antt`, what an append and a tick leave, and `specs/Mounting.antt`. `specs/Steps.antt` and
-//! `specs/Parts.antt` have what the steps of a call do, and `specs/StoredOnce.antt` the law that `src/laws.rt` names.
+//! `specs/Parts.antt` have what the steps of a call do, and `specs/StoredOnce.antt` the laws that `src/laws.rt` names.
 #![tactic(auto)]
 
 mod laws;
 mod log;
 mod mounting;
 
-pub use laws::a_message_is_stored_once;
+pub use laws::{a_message_is_stored_once, calls_store_a_message_once, each_call_is_one_of_a_run};
 pub use log::ShardLog;
