@@ -1,7 +1,7 @@
 // A journal with the sessions that it holds.
 ghost use Rattle.std.specs.Prelude.{◌≡◌, ◌≤◌, ◌<◌, length, IsTrue, IfOk, SomeIff, Some, None, true, false};
-ghost use Rattle.topic_terms.specs.Limits.{is_within_limits};
-ghost use Rattle.topic_terms.specs.Profile.{whole};
+ghost use Rattle.topic_model.specs.Limits.{is_within_limits};
+ghost use Rattle.topic_model.specs.Profile.{whole};
 ghost use Rattle.topic_name.specs.PlainConfig.{plain_config};
 ghost use Rattle.session_codec.specs.HasSpelling.{have_spelling};
 ghost use Rattle.session_codec.specs.Spelling.{spelled_changes};

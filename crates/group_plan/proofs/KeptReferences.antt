@@ -2,7 +2,7 @@
 use Rattle.std.proofs.Common.{◌≡◌, ◌<◌, ◌≤◌, ◌==◌, Bool, true, false, Vec, vec_len, Global, List, length, sym, ap, ◌∙◌, arith}
 use Rattle.std.proofs.lemmas.Bool.{eqb-true, eqb-false}
 use Rattle.std.specs.Borrow.{Bor}
-use Rattle.shard_terms.specs.ShardList.{ShardList}
+use Rattle.shard_model.specs.ShardList.{ShardList}
 use Rattle.record_codec.specs.declared.group.Op.{Op}
 use Rattle.record_codec.specs.Records.{plain_ops}
 use Rattle.group_plan.specs.Plan.{lacks_room}

@@ -1,7 +1,7 @@
 -- What a group may ask of a shard.
 use Rattle.std.specs.Prelude.{ℕ, Bool, true, false, ◌&&◌, not, nat_le, min, List, [], ◌∷◌, length}
 use Rattle.std.specs.List.{list_all, sum_by}
-use Rattle.topic_terms.specs.Profile.{Config, whole}
+use Rattle.topic_model.specs.Profile.{Config, whole}
 use Rattle.record_codec.specs.declared.formats.TheConstants.{MOST_OPERATIONS}
 use Rattle.record_codec.specs.declared.group.Op.{Op}
 use Rattle.record_codec.specs.declared.group.Op.TheVariants.{Store, Release, Forget}

@@ -2,7 +2,7 @@
 use Rattle.std.proofs.Common.{◌≡◌, ◌≤◌, true, ◌&&◌, nat_le, List, length}
 use Rattle.std.specs.List.{list_all}
 use Rattle.std.proofs.lemmas.Bool.{and_parts, leb-true}
-use Rattle.topic_terms.specs.Profile.{Config, whole}
+use Rattle.topic_model.specs.Profile.{Config, whole}
 use Rattle.record_codec.specs.declared.formats.TheConstants.{MOST_OPERATIONS}
 use Rattle.record_codec.specs.declared.group.Op.{Op}
 use Rattle.record_codec.specs.Records.{messages_of}

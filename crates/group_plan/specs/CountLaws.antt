@@ -8,9 +8,9 @@ use Rattle.std.proofs.lemmas.List.Elements.{filter-append}
 use Rattle.std.proofs.lemmas.List.Filters.{length-filter_both}
 use Rattle.std.proofs.lemmas.Map.Keys.{IsDistinct-push}
 use Rattle.std.proofs.lemmas.Slice.Eq.{bytes_eq-Decides}
-use Rattle.topic_terms.specs.StoredMessage.{StoredMessage}
-use Rattle.shard_terms.specs.ShardList.{Awaited}
-use Rattle.shard_terms.specs.Storing.{Op, Store, Release, Forget, becomes_awaited, is_awaited_as, is_of, triple_of}
+use Rattle.topic_model.specs.StoredMessage.{StoredMessage}
+use Rattle.shard_model.specs.ShardList.{Awaited}
+use Rattle.shard_model.specs.Storing.{Op, Store, Release, Forget, becomes_awaited, is_awaited_as, is_of, triple_of}
 use Rattle.shard_index.specs.Absorbing.{is_new}
 use Rattle.shard_index.specs.Triples.{same_triple, same_triple_equiv}
 use Rattle.group_plan.specs.Keeping.{acts_on, awaited_by, awaited_after, all_act}

@@ -1,8 +1,8 @@
 -- How many identifiers are awaited behind operations, by numbers alone: of those that an operation asks for, and of all.
 use Rattle.std.specs.Prelude.{ℕ, ◌+◌, ◌-◌, Bool, false, ◌&&◌, ◌==◌, not, nat_lt, if◌then◌else◌, List, [], ◌∷◌, filter, length, Option, Some, None}
 use Rattle.std.specs.Str.{bytes_eq}
-use Rattle.shard_terms.specs.ShardList.{Awaited}
-use Rattle.shard_terms.specs.Storing.{Op, Store, Release, Forget, becomes_awaited, is_awaited_as, is_of}
+use Rattle.shard_model.specs.ShardList.{Awaited}
+use Rattle.shard_model.specs.Storing.{Op, Store, Release, Forget, becomes_awaited, is_awaited_as, is_of}
 
 -- an identifier is of the session of an operation, and where the operation names one, it is that
 abbrev pub asks_for : Op → Awaited → Bool

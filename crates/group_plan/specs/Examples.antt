@@ -1,9 +1,9 @@
 -- Computed examples: what is planned for groups, and what a group may ask.
 use Rattle.std.specs.Prelude.{ℕ, ◌-◌, ◌^◌, ◌≡◌, true, false, List, [], ◌∷◌, codes, replicate, Some, None, refl}
-use Rattle.topic_terms.specs.Profile.{default_config}
+use Rattle.topic_model.specs.Profile.{default_config}
 use Rattle.topic_name.specs.KeptMessage.{KeptMessage}
-use Rattle.shard_terms.specs.Examples.{said}
-use Rattle.shard_terms.specs.ShardList.{Awaited, ShardList, opening_list}
+use Rattle.shard_model.specs.Examples.{said}
+use Rattle.shard_model.specs.ShardList.{Awaited, ShardList, opening_list}
 use Rattle.record_codec.specs.declared.group.Op.{Op}
 use Rattle.record_codec.specs.declared.group.Op.TheVariants.{Store, Release, Forget}
 use Rattle.record_codec.specs.Records.{KeptGroup}

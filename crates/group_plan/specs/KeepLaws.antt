@@ -4,8 +4,8 @@ use Rattle.std.specs.List.{list_all}
 use Rattle.std.proofs.lemmas.Bool.{and_parts}
 use Rattle.std.proofs.lemmas.List.{length-append, map-append}
 use Rattle.std.proofs.lemmas.Option.{same_Some}
-use Rattle.shard_terms.specs.ShardList.{Awaited, ShardList, next_of}
-use Rattle.shard_terms.specs.Storing.{Op as PlainOp, Store as PlainStore, Release as PlainRelease, Forget as PlainForget, acts, act, act_if, keep_if, kept_ops, placed, store}
+use Rattle.shard_model.specs.ShardList.{Awaited, ShardList, next_of}
+use Rattle.shard_model.specs.Storing.{Op as PlainOp, Store as PlainStore, Release as PlainRelease, Forget as PlainForget, acts, act, act_if, keep_if, kept_ops, placed, store}
 use Rattle.shard_index.specs.Group.{also_if as also_taken_if, op_for, ops_for}
 use Rattle.record_codec.specs.declared.group.Op.{Op}
 use Rattle.record_codec.specs.declared.group.Op.TheVariants.{Store, Release, Forget}

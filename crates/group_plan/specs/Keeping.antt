@@ -1,8 +1,8 @@
 -- Which operations are kept, by what is awaited alone, and how they are written, by the next offset alone.
 use Rattle.std.specs.Prelude.{ℕ, ◌+◌, Bool, true, false, ◌&&◌, not, List, [], ◌∷◌, ◌++◌, filter}
 use Rattle.std.specs.List.{list_any}
-use Rattle.shard_terms.specs.ShardList.{Awaited}
-use Rattle.shard_terms.specs.Storing.{Op as PlainOp, Store, Release, Forget, becomes_awaited, is_awaited_as, is_of}
+use Rattle.shard_model.specs.ShardList.{Awaited}
+use Rattle.shard_model.specs.Storing.{Op as PlainOp, Store, Release, Forget, becomes_awaited, is_awaited_as, is_of}
 use Rattle.shard_index.specs.Absorbing.{is_new}
 use Rattle.record_codec.specs.declared.group.Op.{Op}
 use Rattle.record_codec.specs.Records.{plain_op, offsets_of}

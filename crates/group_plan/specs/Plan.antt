@@ -1,11 +1,11 @@
 -- What a shard makes of a group that it is asked to store: which operations are kept, and the record that tells them.
 use Rattle.std.specs.Prelude.{ℕ, Bool, true, false, ◌&&◌, ◌||◌, nat_le, is_none, if◌then◌else◌, List, [], ◌∷◌, None}
 use Rattle.std.specs.List.{list_all}
-use Rattle.topic_terms.specs.Profile.{whole}
+use Rattle.topic_model.specs.Profile.{whole}
 use Rattle.topic_name.specs.KeptMessage.{KeptMessage}
-use Rattle.shard_terms.specs.ShardList.{ShardList, next_of}
-use Rattle.shard_terms.specs.Storing.{Op as PlainOp, acts, act_if, kept_ops, placed}
-use Rattle.shard_terms.specs.Capacity.{awaits_too_many, has_stores, needs_a_cut, passes_the_last}
+use Rattle.shard_model.specs.ShardList.{ShardList, next_of}
+use Rattle.shard_model.specs.Storing.{Op as PlainOp, acts, act_if, kept_ops, placed}
+use Rattle.shard_model.specs.Capacity.{awaits_too_many, has_stores, needs_a_cut, passes_the_last}
 use Rattle.shard_index.specs.Absorbing.{limits}
 use Rattle.session_codec.specs.HasSpelling.{fits_u16}
 use Rattle.record_codec.specs.declared.group.Op.{Op}

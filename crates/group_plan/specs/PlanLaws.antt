@@ -4,11 +4,11 @@ use Rattle.std.specs.List.{sum_by}
 use Rattle.std.proofs.lemmas.Bool.{and_parts, ltb-true, leb-true}
 use Rattle.std.proofs.lemmas.Bool.Decides.{nat_tests}
 use Rattle.std.proofs.lemmas.List.{length-map}
-use Rattle.topic_terms.specs.Profile.{Config, whole, one_generation}
-use Rattle.shard_terms.specs.ShardList.{Cut, Awaited, ShardList, newest, newest_messages, next_of, oldest_of}
-use Rattle.shard_terms.specs.Storing.{Op as PlainOp, kept_ops, store, stores_of}
-use Rattle.shard_terms.specs.Capacity.{awaits_too_many, has_stores, is_full, may_drop, is_over, needs_a_cut, passes_the_last, store_size}
-use Rattle.shard_terms.specs.Lists.{IsList, IsRow}
+use Rattle.topic_model.specs.Profile.{Config, whole, one_generation}
+use Rattle.shard_model.specs.ShardList.{Cut, Awaited, ShardList, newest, newest_messages, next_of, oldest_of}
+use Rattle.shard_model.specs.Storing.{Op as PlainOp, kept_ops, store, stores_of}
+use Rattle.shard_model.specs.Capacity.{awaits_too_many, has_stores, is_full, may_drop, is_over, needs_a_cut, passes_the_last, store_size}
+use Rattle.shard_model.specs.Lists.{IsList, IsRow}
 use Rattle.shard_index.specs.Absorbing.{absorbed_all, all_stand, limits}
 use Rattle.shard_index.specs.Group.{HasRoom, ops_for}
 use Rattle.shard_index.specs.GroupLaws.{group_absorbed}

@@ -1,6 +1,6 @@
 -- What a plan in memory is, by the definition.
 use Rattle.std.specs.Prelude.{◌≡◌, ℕ, ◌<◌, ◌≤◌, List, length, IsTrue}
-use Rattle.shard_terms.specs.ShardList.{ShardList}
+use Rattle.shard_model.specs.ShardList.{ShardList}
 use Rattle.shard_index.specs.Group.{ops_for}
 use Rattle.record_codec.specs.declared.group.Op.{Op}
 use Rattle.record_codec.specs.Records.{plain_ops}

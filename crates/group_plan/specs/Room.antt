@@ -1,7 +1,7 @@
 -- How much room the newest generation has, by numbers alone.
 use Rattle.std.specs.Prelude.{ℕ, ◌+◌, ◌^◌, Bool, ◌&&◌, nat_le, nat_lt, length}
-use Rattle.topic_terms.specs.Profile.{whole}
-use Rattle.shard_terms.specs.ShardList.{ShardList, newest, newest_messages, next_of}
+use Rattle.topic_model.specs.Profile.{whole}
+use Rattle.shard_model.specs.ShardList.{ShardList, newest, newest_messages, next_of}
 use Rattle.shard_index.specs.Sound.{newest_bytes}
 
 -- it takes so many messages more, with so many bytes in groups, and there are offsets for them

@@ -7,13 +7,13 @@ use Rattle.std.proofs.lemmas.Bool.Decides.{nat_tests}
 use Rattle.std.proofs.Math.Bool.{and-true}
 use Rattle.std.proofs.lemmas.List.{length-append}
 use Rattle.std.proofs.lemmas.List.Sums.{sum_by-append, sum_by-cons}
-use Rattle.topic_terms.specs.Profile.{whole}
-use Rattle.topic_terms.specs.StoredMessage.{StoredMessage}
+use Rattle.topic_model.specs.Profile.{whole}
+use Rattle.topic_model.specs.StoredMessage.{StoredMessage}
 use Rattle.wire_fields.specs.Text.{is_text}
 use Rattle.topic_name.specs.KeptMessage.{KeptMessage}
-use Rattle.shard_terms.specs.ShardList.{ShardList, newest, newest_messages, next_of}
-use Rattle.shard_terms.specs.Storing.{Op as PlainOp, placed, stores_of}
-use Rattle.shard_terms.specs.Capacity.{has_stores, fits, learns_few_or_within, passes_the_last, store_size}
+use Rattle.shard_model.specs.ShardList.{ShardList, newest, newest_messages, next_of}
+use Rattle.shard_model.specs.Storing.{Op as PlainOp, placed, stores_of}
+use Rattle.shard_model.specs.Capacity.{has_stores, fits, learns_few_or_within, passes_the_last, store_size}
 use Rattle.shard_index.specs.Absorbing.{limits}
 use Rattle.shard_index.specs.Sound.{newest_bytes}
 use Rattle.shard_index.specs.SoundLaws.{learns_anyway}

@@ -2,10 +2,10 @@
 use Rattle.std.proofs.Common.{◌≡◌, ℕ, zero, suc, ◌+◌, ◌<◌, ◌≤◌, ◌^◌, true, false, List, [], ◌∷◌, ◌++◌, length, map, refl, sym, ap, subst, ◌∙◌, append_assoc, arith}
 use Rattle.std.specs.List.{sum_by}
 use Rattle.std.proofs.lemmas.Bool.{and_parts}
-use Rattle.topic_terms.specs.Profile.{whole}
-use Rattle.topic_terms.specs.StoredMessage.{StoredMessage}
-use Rattle.shard_terms.specs.ShardList.{ShardList, next_of}
-use Rattle.shard_terms.specs.Capacity.{store_size}
+use Rattle.topic_model.specs.Profile.{whole}
+use Rattle.topic_model.specs.StoredMessage.{StoredMessage}
+use Rattle.shard_model.specs.ShardList.{ShardList, next_of}
+use Rattle.shard_model.specs.Capacity.{store_size}
 use Rattle.shard_index.specs.Sound.{newest_bytes}
 use Rattle.record_codec.specs.declared.formats.TheConstants.{MOST_OPERATIONS}
 use Rattle.record_codec.specs.declared.group.Op.{Op}

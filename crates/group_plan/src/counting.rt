@@ -1,6 +1,6 @@
 // How many identifiers are awaited behind operations that act, without an index that takes them.
 ghost use Rattle.std.specs.Prelude.{true, ◌-◌, ◌≡◌, ◌+◌, ◌<◌, ◌≤◌, ◌==◌, ◌&&◌, ◌^◌, nat_lt, length, map, if◌then◌else◌, Some, None};
-ghost use Rattle.shard_terms.specs.Storing.{becomes_awaited};
+ghost use Rattle.shard_model.specs.Storing.{becomes_awaited};
 ghost use Rattle.record_codec.specs.Records.{plain_op, plain_ops};
 ghost use Rattle.group_plan.specs.Keeping.{acts_on, awaited_after, awaited_by, all_act};
 ghost use Rattle.group_plan.specs.Counting.{asked_count, asks_for, asks_of, counted_after, counted_by, is_free, is_session, taken_total, total_by};

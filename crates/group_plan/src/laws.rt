@@ -1,9 +1,9 @@
 ghost use Rattle.std.specs.Prelude.{◌≡◌, ◌≤◌, List, ℕ, [], IsTrue, length};
-ghost use Rattle.topic_terms.specs.Profile.{Config, one_generation};
-ghost use Rattle.shard_terms.specs.ShardList.{ShardList};
-ghost use Rattle.shard_terms.specs.Storing.{Op as PlainOp, kept_ops, store};
-ghost use Rattle.shard_terms.specs.Capacity.{is_full};
-ghost use Rattle.shard_terms.specs.Lists.{IsList};
+ghost use Rattle.topic_model.specs.Profile.{Config, one_generation};
+ghost use Rattle.shard_model.specs.ShardList.{ShardList};
+ghost use Rattle.shard_model.specs.Storing.{Op as PlainOp, kept_ops, store};
+ghost use Rattle.shard_model.specs.Capacity.{is_full};
+ghost use Rattle.shard_model.specs.Lists.{IsList};
 ghost use Rattle.shard_index.specs.Absorbing.{limits};
 ghost use Rattle.record_codec.specs.declared.group.Op.{Op};
 ghost use Rattle.record_codec.specs.Records.{KeptGroup};

@@ -1,6 +1,6 @@
 // Operations as they are written, and as an index takes them. Payloads and properties are shared.
 ghost use Rattle.std.specs.Prelude.{◌≡◌, ◌<◌, ◌+◌, map, IsTrue, IfOk};
-ghost use Rattle.shard_terms.specs.Storing.{placed};
+ghost use Rattle.shard_model.specs.Storing.{placed};
 ghost use Rattle.record_codec.specs.Records.{index_op, offsets_of};
 ghost use Rattle.record_codec.specs.Spelling.{spelled_group};
 ghost use Rattle.group_plan.specs.Plan.{fits_op_alone, written_at};

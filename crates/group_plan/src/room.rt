@@ -1,6 +1,6 @@
 // Whether the newest generation has room for the messages of operations.
 ghost use Rattle.std.specs.Prelude.{◌≡◌, ◌≤◌, ◌<◌, ◌-◌, ◌^◌, ◌+◌, nat_le, min, length, map};
-ghost use Rattle.shard_terms.specs.ShardList.{newest, newest_messages, next_of};
+ghost use Rattle.shard_model.specs.ShardList.{newest, newest_messages, next_of};
 ghost use Rattle.shard_index.specs.KeptIndex.{list_of};
 ghost use Rattle.shard_index.specs.Sound.{newest_bytes};
 ghost use Rattle.record_codec.specs.Records.{messages_of, offsets_of, plain_ops};

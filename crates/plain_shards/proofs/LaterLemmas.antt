@@ -1,10 +1,10 @@
 -- That what a log shows grows.
 use Rattle.std.proofs.Common.{◌≡◌, ◌⊎◌, inl, inr, ℕ, Option, Some, None, Result, Ok, Err, List, refl, sym, subst}
 use Rattle.outside.specs.DiskModel.{DiskState}
-use Rattle.shard_terms.specs.ShardList.{ShardList}
-use Rattle.shard_terms.specs.Storing.{store}
-use Rattle.shard_terms.specs.Lists.{IsList}
-use Rattle.shard_terms.specs.ListLaws.{store_in_order, storing_grows}
+use Rattle.shard_model.specs.ShardList.{ShardList}
+use Rattle.shard_model.specs.Storing.{store}
+use Rattle.shard_model.specs.Lists.{IsList}
+use Rattle.shard_model.specs.laws.ListLaws.{store_in_order, storing_grows}
 use Rattle.shard_index.specs.declared.refused.AppendRefused.{AppendRefused}
 use Rattle.shard_index.specs.GrowLaws.{absorbed_all_grows}
 use Rattle.shard_index.specs.KeptIndex.{ToldReceipt}

@@ -2,7 +2,7 @@
 use Rattle.std.proofs.Common.{◌≡◌, ℕ, zero, suc, ◌+◌, ◌<◌, ◌≤◌, ◌&&◌, nat_le, true, List, [], ◌∷◌, Some, map, length, get_or, slice_get, slice_set, refl, sym, ap, subst, ◌∙◌, arith}
 use Rattle.std.proofs.lemmas.Bool.{and_parts, leb-true}
 use Rattle.std.proofs.lemmas.List.{length-map}
-use Rattle.topic_terms.specs.Limits.{has_known_counts, has_known_generations, has_known_thresholds, lies_between}
+use Rattle.topic_model.specs.Limits.{has_known_counts, has_known_generations, has_known_thresholds, lies_between}
 use Rattle.topic_name.specs.declared.config.Config.{Config}
 use Rattle.topic_name.specs.PlainConfig.{plain_config}
 use Rattle.shard_fold.specs.declared.asked.Asked.{Asked}

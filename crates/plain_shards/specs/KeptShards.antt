@@ -1,7 +1,7 @@
 -- What callers see of the shards of one thread, and what that is to a reader.
 use Rattle.std.specs.Prelude.{ℕ, suc, ◌≡◌, ◌<◌, Bool, true, false, List, [], ◌∷◌, length, drop, refl}
 use Rattle.std.proofs.Common.{◌∙◌}
-use Rattle.topic_terms.specs.Limits.{is_within_limits}
+use Rattle.topic_model.specs.Limits.{is_within_limits}
 use Rattle.topic_name.specs.declared.config.Config.{Config}
 use Rattle.topic_name.specs.PlainConfig.{plain_config}
 use Rattle.shard_index.specs.KeptIndex.{KeptIndex, ToldReceipt}

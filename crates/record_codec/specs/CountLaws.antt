@@ -5,11 +5,11 @@ use Rattle.std.specs.List.{list_all}
 use Rattle.std.proofs.lemmas.Bool.{and_parts, ltb-true, leb-true}
 use Rattle.std.proofs.lemmas.List.Elements.{All-cons, All-nil}
 use Rattle.wire_fields.specs.Text.{is_text}
-use Rattle.topic_terms.specs.Levels.{text_of_levels}
-use Rattle.topic_terms.specs.Texts.{topic_refusal}
-use Rattle.topic_terms.specs.StoredMessage.{StoredMessage}
+use Rattle.topic_model.specs.Levels.{text_of_levels}
+use Rattle.topic_model.specs.Texts.{topic_refusal}
+use Rattle.topic_model.specs.StoredMessage.{StoredMessage}
 use Rattle.topic_name.specs.KeptMessage.{ColdPlace, KeptMessage}
-use Rattle.shard_terms.specs.ShardList.{Awaited}
+use Rattle.shard_model.specs.ShardList.{Awaited}
 use Rattle.session_codec.specs.HasSpelling.{fits_u8, fits_u16, fits_u64, fits_text, are_levels}
 use Rattle.session_codec.specs.Taking.{IsShort, most_count}
 use Rattle.session_codec.specs.CountLaws.{all_from}
@@ -18,7 +18,7 @@ use Rattle.record_codec.specs.declared.group.Op.{Op}
 use Rattle.record_codec.specs.declared.group.Op.TheVariants.{Store, Release, Forget}
 use Rattle.record_codec.specs.Records.{KeptGroup, KeptOpening, KeptManifest, offsets_of}
 use Rattle.record_codec.specs.HasSpelling.{fits_blob, fits_topic, is_list, fits_props, fits_delivery, fits_sender, fits_expiry, fits_message, fits_store, fits_op, all_in_turn, is_op_count, fit_ops, group_has_spelling, fits_awaited, opening_has_spelling, fits_cut, is_cut_count, manifest_has_spelling}
-use Rattle.shard_terms.specs.Capacity.{expiry_size, store_size}
+use Rattle.shard_model.specs.Capacity.{expiry_size, store_size}
 use Rattle.record_codec.specs.Spelling.{spelled_op}
 use Rattle.record_codec.specs.SizeLaws.{op_sized}
 use Rattle.record_codec.specs.Taking.{IsTold, IsToldOp, HasShortPublisher}

@@ -1,8 +1,8 @@
 -- Computed examples: how groups, openings and manifests are spelled, what is read again, and what spells nothing.
 use Rattle.std.specs.Prelude.{ℕ, ◌+◌, ◌-◌, ◌*◌, ◌==◌, nat_lt, true, false, if◌then◌else◌, List, [], ◌∷◌, ◌++◌, length, Option, Some, None, codes, ◌≡◌, refl}
-use Rattle.topic_terms.specs.Levels.{levels_of}
-use Rattle.topic_terms.specs.StoredMessage.{StoredMessage}
-use Rattle.shard_terms.specs.Capacity.{store_size}
+use Rattle.topic_model.specs.Levels.{levels_of}
+use Rattle.topic_model.specs.StoredMessage.{StoredMessage}
+use Rattle.shard_model.specs.Capacity.{store_size}
 use Rattle.record_codec.specs.declared.group.Op.{Op}
 use Rattle.record_codec.specs.declared.group.Op.TheVariants.{Store, Release, Forget}
 use Rattle.record_codec.specs.Records.{KeptGroup, KeptOpening, KeptManifest}

@@ -5,9 +5,9 @@ use Rattle.wire_fields.specs.declared.cut.Cut.{Cut}
 use Rattle.wire_fields.specs.Spelled.{spelled_u8, spelled_u16, spelled_u32, spelled_text}
 use Rattle.wire_fields.specs.Reading.{bytes_of}
 use Rattle.wire_fields.specs.SizedLaws.{bytes_body}
-use Rattle.topic_terms.specs.Levels.{levels_of, text_of_levels}
-use Rattle.topic_terms.specs.LevelsLaws.{text_of-levels_of}
-use Rattle.topic_terms.specs.Texts.{topic_refusal}
+use Rattle.topic_model.specs.Levels.{levels_of, text_of_levels}
+use Rattle.topic_model.specs.laws.LevelsLaws.{text_of-levels_of}
+use Rattle.topic_model.specs.Texts.{topic_refusal}
 use Rattle.session_codec.specs.HasSpelling.{fits_u8, fits_u32, fits_text, are_levels}
 use Rattle.session_codec.specs.Reading.{◌>>=◌, if_field, four_at, made, nothing_at}
 use Rattle.session_codec.specs.Forms.{IsForm, some_is, bind_some, both_form, passing_form, made_form, nothing_form}

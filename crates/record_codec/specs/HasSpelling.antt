@@ -2,14 +2,14 @@
 -- properties are a list, the Stores of a group have consecutive offsets from its first on, and their bodies are in memory.
 use Rattle.std.specs.Prelude.{ℕ, ◌+◌, ◌==◌, ◌&&◌, ◌||◌, nat_lt, nat_le, Bool, true, List, [], ◌∷◌, length, is_none, is_ok, Option, Some, None}
 use Rattle.std.specs.List.{list_all}
-use Rattle.topic_terms.specs.Levels.{text_of_levels}
-use Rattle.topic_terms.specs.Texts.{topic_refusal}
-use Rattle.topic_terms.specs.StoredMessage.{StoredMessage}
+use Rattle.topic_model.specs.Levels.{text_of_levels}
+use Rattle.topic_model.specs.Texts.{topic_refusal}
+use Rattle.topic_model.specs.StoredMessage.{StoredMessage}
 use Rattle.topic_name.specs.declared.descriptor.Descriptor.{Descriptor}
 use Rattle.topic_name.specs.KeptMessage.{KeptMessage}
 use Rattle.mqtt_props.specs.declared.table.Holder.TheVariants.{Publish}
 use Rattle.mqtt_props.specs.Props.{bare_props}
-use Rattle.shard_terms.specs.ShardList.{Awaited}
+use Rattle.shard_model.specs.ShardList.{Awaited}
 use Rattle.session_codec.specs.HasSpelling.{fits_u8, fits_u16, fits_u32, fits_u64, fits_text, are_levels, fits_parting}
 use Rattle.record_codec.specs.declared.formats.TheConstants.{MOST_OPERATIONS, MOST_GENERATIONS}
 use Rattle.record_codec.specs.declared.group.Op.{Op}

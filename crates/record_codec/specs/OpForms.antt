@@ -2,7 +2,7 @@
 use Rattle.std.proofs.Common.{◌≡◌, ℕ, Bool, true, false, ◌&&◌, ◌==◌, List, ◌++◌, is_none, Option, Some, None, refl, sym, ap, subst, ◌∙◌}
 use Rattle.std.proofs.lemmas.Bool.{and_parts, and_from, eqb-true, eq-eqb}
 use Rattle.wire_fields.specs.Spelled.{spelled_u8}
-use Rattle.topic_terms.specs.StoredMessage.{StoredMessage}
+use Rattle.topic_model.specs.StoredMessage.{StoredMessage}
 use Rattle.topic_name.specs.KeptMessage.{ColdPlace, KeptMessage}
 use Rattle.session_codec.specs.HasSpelling.{fits_u8, fits_u16, fits_u64}
 use Rattle.session_codec.specs.Reading.{two_at, made, both}

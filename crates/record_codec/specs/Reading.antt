@@ -1,11 +1,11 @@
 -- Reading the records of a shard's disks: what bytes spell, none where they spell nothing.
 use Rattle.std.specs.Prelude.{ℕ, zero, suc, ◌+◌, ◌==◌, if◌then◌else◌, is_none, Bool, true, false, List, [], Option, Some, None}
 use Rattle.wire_fields.specs.Reading.{bytes_of}
-use Rattle.topic_terms.specs.Levels.{levels_of}
-use Rattle.topic_terms.specs.Texts.{topic_refusal}
+use Rattle.topic_model.specs.Levels.{levels_of}
+use Rattle.topic_model.specs.Texts.{topic_refusal}
 use Rattle.topic_name.specs.declared.descriptor.Descriptor.{Descriptor}
 use Rattle.topic_name.specs.KeptMessage.{KeptMessage}
-use Rattle.shard_terms.specs.ShardList.{Awaited}
+use Rattle.shard_model.specs.ShardList.{Awaited}
 use Rattle.session_codec.specs.HasSpelling.{fits_u64}
 use Rattle.session_codec.specs.Reading.{◌>>=◌, then_by, both, passing, made, nothing_at, onto, counted, filling, if_field, byte_at, two_at, four_at, eight_at, name_at, parting_at}
 use Rattle.record_codec.specs.declared.formats.TheConstants.{GROUP, OPENING, MANIFEST_FORMAT, RECORD_FORMAT}

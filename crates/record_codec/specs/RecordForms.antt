@@ -4,7 +4,7 @@ use Rattle.std.specs.Prelude.{nat_lt, nat_le}
 use Rattle.std.proofs.lemmas.Bool.{and_parts, leb-true, lt-ltb}
 use Rattle.wire_fields.specs.Spelled.{spelled_u8, spelled_u16}
 use Rattle.topic_name.specs.declared.descriptor.Descriptor.{Descriptor}
-use Rattle.shard_terms.specs.ShardList.{Awaited}
+use Rattle.shard_model.specs.ShardList.{Awaited}
 use Rattle.session_codec.specs.HasSpelling.{fits_u8, fits_u16}
 use Rattle.session_codec.specs.Forms.{IsForm, IsWhole, then_form, both_form, passing_form, record_form, refit, counted_form, filling_whole}
 use Rattle.session_codec.specs.PartForms.{byte_form, two_form, four_form, eight_form, parting_form, narrower}

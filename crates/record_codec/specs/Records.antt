@@ -1,9 +1,9 @@
 -- The records of a shard's disks as plain values.
 use Rattle.std.specs.Prelude.{ℕ, List, map}
 use Rattle.topic_name.specs.declared.descriptor.Descriptor.{Descriptor}
-use Rattle.shard_terms.specs.ShardList.{Awaited}
-use Rattle.topic_terms.specs.StoredMessage.{StoredMessage}
-use Rattle.shard_terms.specs.Storing.{Op as PlainOp, stores_of, Store as PlainStore, Release as PlainRelease, Forget as PlainForget}
+use Rattle.shard_model.specs.ShardList.{Awaited}
+use Rattle.topic_model.specs.StoredMessage.{StoredMessage}
+use Rattle.shard_model.specs.Storing.{Op as PlainOp, stores_of, Store as PlainStore, Release as PlainRelease, Forget as PlainForget}
 use Rattle.shard_index.specs.declared.op.IndexOp.{IndexOp}
 use Rattle.shard_index.specs.declared.op.IndexOp.TheVariants as index
 use Rattle.record_codec.specs.declared.group.Op.{Op}

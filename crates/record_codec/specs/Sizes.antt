@@ -1,8 +1,8 @@
 -- How long spellings are, as numbers. That of a Store is `store_size`, which a generation's limit counts.
 use Rattle.std.specs.Prelude.{ℕ, ◌+◌, ◌*◌, List, length}
 use Rattle.std.specs.List.{sum_by}
-use Rattle.shard_terms.specs.ShardList.{Awaited}
-use Rattle.shard_terms.specs.Capacity.{store_size}
+use Rattle.shard_model.specs.ShardList.{Awaited}
+use Rattle.shard_model.specs.Capacity.{store_size}
 use Rattle.record_codec.specs.declared.group.Op.{Op}
 use Rattle.record_codec.specs.declared.group.Op.TheVariants.{Store, Release, Forget}
 use Rattle.record_codec.specs.Records.{KeptGroup, KeptOpening, KeptManifest}

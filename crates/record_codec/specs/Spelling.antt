@@ -2,10 +2,10 @@
 use Rattle.std.specs.Prelude.{ℕ, List, [], ◌++◌, length, Option, Some, None}
 use Rattle.std.specs.List.{flat_map}
 use Rattle.wire_fields.specs.Spelled.{spelled_u8, spelled_u16, spelled_u32, spelled_u64, spelled_text}
-use Rattle.topic_terms.specs.Levels.{text_of_levels}
-use Rattle.topic_terms.specs.StoredMessage.{StoredMessage}
+use Rattle.topic_model.specs.Levels.{text_of_levels}
+use Rattle.topic_model.specs.StoredMessage.{StoredMessage}
 use Rattle.topic_name.specs.declared.descriptor.Descriptor.{Descriptor}
-use Rattle.shard_terms.specs.ShardList.{Awaited}
+use Rattle.shard_model.specs.ShardList.{Awaited}
 use Rattle.session_codec.specs.Spelling.{spelled_moment}
 use Rattle.record_codec.specs.declared.formats.TheConstants.{GROUP, OPENING, MANIFEST_FORMAT, RECORD_FORMAT}
 use Rattle.record_codec.specs.declared.group.Op.{Op}

@@ -1,9 +1,9 @@
 -- What the calls may rest on that read or write a part: numbers of any width, and texts and bytes whose length can be told.
 use Rattle.std.specs.Prelude.{ℕ, ◌-◌, ◌^◌, ◌<◌, ◌≡◌, List, length, Option, Some, None}
 use Rattle.wire_fields.specs.Spelled.{spelled_u8, spelled_u16, spelled_u32, spelled_u64}
-use Rattle.topic_terms.specs.Levels.{text_of_levels}
+use Rattle.topic_model.specs.Levels.{text_of_levels}
 use Rattle.topic_name.specs.KeptMessage.{KeptMessage}
-use Rattle.shard_terms.specs.ShardList.{Awaited}
+use Rattle.shard_model.specs.ShardList.{Awaited}
 use Rattle.session_codec.specs.Taking.{IsShort}
 use Rattle.record_codec.specs.declared.numbers.Number.{Number}
 use Rattle.record_codec.specs.declared.numbers.Number.TheVariants.{One, Two, Four, Eight}

@@ -1,6 +1,6 @@
 ghost use Rattle.std.specs.Prelude.{◌≡◌, ◌<◌, drop, [], true, false, None, IfOk, IfErr, IsErrOf, IsSome};
-ghost use Rattle.topic_terms.specs.Levels.{levels_of};
-ghost use Rattle.topic_terms.specs.Texts.{topic_refusal};
+ghost use Rattle.topic_model.specs.Levels.{levels_of};
+ghost use Rattle.topic_model.specs.Texts.{topic_refusal};
 ghost use Rattle.wire_fields.specs.Text.{IsText};
 ghost use Rattle.session_codec.specs.declared.refused.CodecRefused;
 ghost use Rattle.session_codec.specs.Reading.{byte_at, two_at, four_at, eight_at, name_at, parting_at};

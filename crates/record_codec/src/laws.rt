@@ -8,8 +8,8 @@ ghost use Rattle.record_codec.specs.Reading.{group_in, opening_in, manifest_in};
 ghost use Rattle.record_codec.specs.Spells.{SpellsGroup, SpellsOpening, SpellsManifest};
 ghost use Rattle.record_codec.specs.Sizes.{op_size, stores_size, group_size, opening_size, manifest_size};
 ghost use Rattle.std.specs.List.{sum_by};
-ghost use Rattle.shard_terms.specs.Capacity.{store_size};
-ghost use Rattle.shard_terms.specs.SweepOrder.{counted_from};
+ghost use Rattle.shard_model.specs.Capacity.{store_size};
+ghost use Rattle.shard_model.specs.SweepOrder.{counted_from};
 ghost use Rattle.record_codec.specs.OffsetLaws.{offsets_in};
 ghost use Rattle.record_codec.specs.Bounds.{generation_length, IsShortOpening, IsWithinGeneration};
 

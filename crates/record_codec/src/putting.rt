@@ -1,6 +1,6 @@
 ghost use Rattle.std.specs.Prelude.{◌≡◌, ◌++◌, None};
 ghost use Rattle.wire_fields.specs.Spelled.{spelled_u8, spelled_u16, spelled_u64};
-ghost use Rattle.topic_terms.specs.Levels.{text_of_levels};
+ghost use Rattle.topic_model.specs.Levels.{text_of_levels};
 ghost use Rattle.topic_name.specs.BodyView.{payload_of, place_of};
 ghost use Rattle.session_codec.specs.Taking.{Puts, IsShort};
 ghost use Rattle.record_codec.specs.Spelling.{spelled_blob, spelled_topic, spelled_expiry, spelled_sender, spelled_told, spelled_message};

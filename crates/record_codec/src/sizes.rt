@@ -1,5 +1,5 @@
 ghost use Rattle.std.specs.Prelude.{◌≡◌, ◌-◌, ◌^◌, min, length, IsTrue};
-ghost use Rattle.shard_terms.specs.Capacity.{expiry_size, store_size};
+ghost use Rattle.shard_model.specs.Capacity.{expiry_size, store_size};
 ghost use Rattle.record_codec.specs.declared.group.Op.TheVariants.{Store};
 ghost use Rattle.record_codec.specs.Spelling.{spelled_op};
 ghost use Rattle.record_codec.specs.HasSpelling.{fits_message};

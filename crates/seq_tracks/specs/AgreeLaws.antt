@@ -4,19 +4,19 @@ use Rattle.std.proofs.lemmas.Bool.{cases_lt, le-leb, lt-leb, lt-ltb, and_from, a
 use Rattle.std.proofs.lemmas.Bool.Decides.{nat_tests}
 use Rattle.std.proofs.lemmas.List.Elements.{filter-append}
 use Rattle.std.proofs.lemmas.Option.{none-some, same_Some}
-use Rattle.session_terms.specs.declared.entry.Entry.{Entry}
-use Rattle.session_terms.specs.declared.entry.Kind.{Kind}
-use Rattle.session_terms.specs.declared.entry.Kind.TheVariants.{Track1, Track2, Zero, Silent}
-use Rattle.session_terms.specs.Entry.{number1, number2, with_number, numbers1, numbers2}
-use Rattle.session_terms.specs.PlainSession as session
-use Rattle.session_terms.specs.PlainSession.{PlainSession, issued1_of, issued2_of, complete_of, left_of, room_of}
-use Rattle.session_terms.specs.Unfinished.{kind_is_finished, kind_is_released, is_finished, unfinished}
-use Rattle.session_terms.specs.Change.{Acked, Received, Done, Passed, Passes}
-use Rattle.session_terms.specs.Acting.{numbers_from}
-use Rattle.session_terms.specs.FitsSession.{is_between, passes, suits}
-use Rattle.session_terms.specs.Orders.{HasNumbers}
-use Rattle.session_terms.specs.DoneLaws.{has, complete_is_done}
-use Rattle.session_terms.specs.TrackLaws.{numbers_by, by_number1, by_number2}
+use Rattle.session_model.specs.declared.entry.Entry.{Entry}
+use Rattle.session_model.specs.declared.entry.Kind.{Kind}
+use Rattle.session_model.specs.declared.entry.Kind.TheVariants.{Track1, Track2, Zero, Silent}
+use Rattle.session_model.specs.Entry.{number1, number2, with_number, numbers1, numbers2}
+use Rattle.session_model.specs.PlainSession as session
+use Rattle.session_model.specs.PlainSession.{PlainSession, issued1_of, issued2_of, complete_of, left_of, room_of}
+use Rattle.session_model.specs.Unfinished.{kind_is_finished, kind_is_released, is_finished, unfinished}
+use Rattle.session_model.specs.Change.{Acked, Received, Done, Passed, Passes}
+use Rattle.session_model.specs.Acting.{numbers_from}
+use Rattle.session_model.specs.FitsSession.{is_between, passes, suits}
+use Rattle.session_model.specs.Orders.{HasNumbers}
+use Rattle.session_model.specs.laws.DoneLaws.{has, complete_is_done}
+use Rattle.session_model.specs.laws.TrackLaws.{numbers_by, by_number1, by_number2}
 use Rattle.seq_tracks.specs.declared.marks.TheConstants.{WIDEST_WINDOW}
 use Rattle.seq_tracks.specs.PlainTracks.{PlainTracks, is_done, is_released, is_unfinished, mark_of, last_of, in_use, room, has_room_for}
 use Rattle.seq_tracks.specs.InOrder.{InOrder}

@@ -1,8 +1,8 @@
 -- What each change makes of tracks.
 use Rattle.std.specs.Prelude.{ℕ, ◌+◌, ◌-◌, ◌<◌, ◌≤◌, ◌≡◌, true, false, ◌==◌, if◌then◌else◌, List, [], ◌∷◌, ◌++◌, filter, length}
-use Rattle.session_terms.specs.PlainSession.{done_from}
-use Rattle.session_terms.specs.Acting.{numbers_from}
-use Rattle.session_terms.specs.DoneLaws.{has}
+use Rattle.session_model.specs.PlainSession.{done_from}
+use Rattle.session_model.specs.Acting.{numbers_from}
+use Rattle.session_model.specs.laws.DoneLaws.{has}
 use Rattle.seq_tracks.specs.PlainTracks.{PlainTracks}
 use Rattle.seq_tracks.specs.InOrder.{ascend}
 

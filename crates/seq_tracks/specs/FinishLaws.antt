@@ -2,8 +2,8 @@
 use Rattle.std.proofs.Common.{◌≡◌, ℕ, ◌+◌, ◌-◌, ◌≤◌, ◌<◌, Bool, true, false, ◌&&◌, ◌||◌, ◌==◌, nat_le, nat_lt, [], ◌∷◌, refl, ap, ◌∙◌, arith}
 use Rattle.std.proofs.lemmas.Bool.{lt-leb, or_from}
 use Rattle.std.proofs.lemmas.Bool.Decides.{nat_tests}
-use Rattle.session_terms.specs.Acting.{numbers_from}
-use Rattle.session_terms.specs.DoneLaws.{has}
+use Rattle.session_model.specs.Acting.{numbers_from}
+use Rattle.session_model.specs.laws.DoneLaws.{has}
 use Rattle.seq_tracks.specs.PlainTracks.{PlainTracks, is_done}
 use Rattle.seq_tracks.specs.InOrder.{InOrder}
 use Rattle.seq_tracks.specs.Changed.{with_done, received_tracks, done_tracks, passed_tracks}

@@ -1,7 +1,7 @@
 -- The packet identifiers of numbers, and the unfinished number that has one (MQTT 2.2.1).
 use Rattle.std.specs.Prelude.{ℕ, ◌+◌, ◌-◌, ◌≡◌, not, ◌==◌, if◌then◌else◌, IsTrue, List, [], filter, find, Option}
-use Rattle.session_terms.specs.Entry.{id1, id2}
-use Rattle.session_terms.specs.Acting.{numbers_from}
+use Rattle.session_model.specs.Entry.{id1, id2}
+use Rattle.session_model.specs.Acting.{numbers_from}
 use Rattle.seq_tracks.specs.PlainTracks.{PlainTracks, is_done, is_unfinished}
 
 -- the identifier of a number of track 1, and else of track 2

@@ -2,8 +2,8 @@
 use Rattle.std.proofs.Common.{◌≡◌, ◌⊎◌, inl, inr, ℕ, zero, suc, ◌+◌, ◌-◌, ◌≤◌, ◌<◌, Bool, true, false, ◌&&◌, ◌||◌, if◌then◌else◌, ◌==◌, nat_le, nat_lt, List, [], ◌∷◌, ◌++◌, length, filter, true≢false, refl, sym, ap, ◌∙◌, arith}
 use Rattle.std.proofs.lemmas.Bool.{cases_eq, cases_Bool, and_parts, ltb-true, leb-true}
 use Rattle.std.proofs.lemmas.Bool.Decides.{nat_tests}
-use Rattle.session_terms.specs.Acting.{numbers_from}
-use Rattle.session_terms.specs.DoneLaws.{has}
+use Rattle.session_model.specs.Acting.{numbers_from}
+use Rattle.session_model.specs.laws.DoneLaws.{has}
 use Rattle.seq_tracks.specs.InOrder.{ascend}
 
 -- ---- so many numbers from one on

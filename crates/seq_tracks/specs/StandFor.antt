@@ -1,9 +1,9 @@
 -- How tracks stand for those of a plain session.
 use Rattle.std.specs.Prelude.{ℕ, ◌<◌, ◌≡◌, length}
-use Rattle.session_terms.specs.Entry.{numbers1, numbers2}
-use Rattle.session_terms.specs.PlainSession as session
-use Rattle.session_terms.specs.PlainSession.{PlainSession, issued1_of, issued2_of, complete_of}
-use Rattle.session_terms.specs.Change.{Effect, Issued, Acked, Received, Done, Passed}
+use Rattle.session_model.specs.Entry.{numbers1, numbers2}
+use Rattle.session_model.specs.PlainSession as session
+use Rattle.session_model.specs.PlainSession.{PlainSession, issued1_of, issued2_of, complete_of}
+use Rattle.session_model.specs.Change.{Effect, Issued, Acked, Received, Done, Passed}
 use Rattle.seq_tracks.specs.PlainTracks.{PlainTracks, is_done}
 use Rattle.seq_tracks.specs.Changed.{acked_tracks, received_tracks, done_tracks, passed_tracks, issued_tracks}
 

@@ -4,17 +4,17 @@ use Rattle.std.proofs.lemmas.Bool.{cases_order, le-leb, or_left, false_from_ne_t
 use Rattle.std.proofs.lemmas.Bool.Decides.{nat_tests}
 use Rattle.std.proofs.lemmas.List.{length-append}
 use Rattle.std.proofs.lemmas.List.Folds.{list_any-append}
-use Rattle.session_terms.specs.declared.entry.Entry.{Entry}
-use Rattle.session_terms.specs.declared.entry.Version.{Version}
-use Rattle.session_terms.specs.Entry.{numbers1, numbers2}
-use Rattle.session_terms.specs.PlainSession.{PlainSession, Subscription, begun_session, complete_of}
-use Rattle.session_terms.specs.Change.{Effect, Began, Ended, Bound, Parted, Subscribed, Replaced, Unsubscribed, Issued, Acked, Received, Done, Passed, Issues, Passes}
-use Rattle.session_terms.specs.Acting.{numbers_from, changed_session}
-use Rattle.session_terms.specs.FitsSession.{suits}
-use Rattle.session_terms.specs.Orders.{HasNumbers}
-use Rattle.session_terms.specs.OrderLaws.{acting_in_order}
-use Rattle.session_terms.specs.DoneLaws.{has, complete_is_done, next_is_not}
-use Rattle.session_terms.specs.TrackLaws.{numbers1-append, numbers2-append}
+use Rattle.session_model.specs.declared.entry.Entry.{Entry}
+use Rattle.session_model.specs.declared.entry.Version.{Version}
+use Rattle.session_model.specs.Entry.{numbers1, numbers2}
+use Rattle.session_model.specs.PlainSession.{PlainSession, Subscription, begun_session, complete_of}
+use Rattle.session_model.specs.Change.{Effect, Began, Ended, Bound, Parted, Subscribed, Replaced, Unsubscribed, Issued, Acked, Received, Done, Passed, Issues, Passes}
+use Rattle.session_model.specs.Acting.{numbers_from, changed_session}
+use Rattle.session_model.specs.FitsSession.{suits}
+use Rattle.session_model.specs.Orders.{HasNumbers}
+use Rattle.session_model.specs.laws.OrderLaws.{acting_in_order}
+use Rattle.session_model.specs.laws.DoneLaws.{has, complete_is_done, next_is_not}
+use Rattle.session_model.specs.laws.TrackLaws.{numbers1-append, numbers2-append}
 use Rattle.seq_tracks.specs.PlainTracks.{PlainTracks, no_tracks, is_done}
 use Rattle.seq_tracks.specs.Changed.{complete_with, those_between, with_done, acked_tracks}
 use Rattle.seq_tracks.specs.StandFor.{TracksStandFor, changed_tracks}

@@ -1,7 +1,7 @@
 // The numbers that are done out of order.
 ghost use Rattle.std.specs.Prelude.{◌≡◌, ◌+◌, ◌-◌, ◌^◌, ◌<◌, ◌≤◌, [], ◌∷◌, ◌++◌, ℕ, IsTrue, drop, vec_len, vec_capacity};
 ghost use Rattle.std.specs.List.{insert};
-ghost use Rattle.session_terms.specs.Acting.{numbers_from};
+ghost use Rattle.session_model.specs.Acting.{numbers_from};
 ghost use Rattle.seq_tracks.specs.PlainTracks.{is_released};
 ghost use Rattle.seq_tracks.specs.InOrder.{InOrder, ascend, tracks_of};
 ghost use Rattle.seq_tracks.specs.Changed.{IsDoneUpTo};

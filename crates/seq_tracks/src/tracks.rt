@@ -4,7 +4,7 @@ ghost use Rattle.seq_tracks.specs.PlainTracks.{no_tracks, is_done, is_released, 
 ghost use Rattle.seq_tracks.specs.InOrder.{InOrder, are_in_order, tracks_of};
 ghost use Rattle.seq_tracks.specs.Identifiers.{HasIdentifier, seq_of};
 ghost use Rattle.seq_tracks.specs.Changed.{acked_tracks, received_tracks, done_tracks, passed_tracks, issued_tracks, with_done};
-ghost use Rattle.session_terms.specs.Acting.{numbers_from};
+ghost use Rattle.session_model.specs.Acting.{numbers_from};
 
 use crate::done::{finish, pass_over};
 use crate::identifiers::seq_between;

@@ -4,7 +4,7 @@ use Rattle.std.specs.List.{list_all}
 use Rattle.std.proofs.lemmas.Bool.{and_parts, and_from}
 use Rattle.std.proofs.lemmas.List.Folds.{list_all-append}
 use Rattle.std.proofs.lemmas.List.Elements.{filter-append}
-use Rattle.topic_terms.specs.Profile.{whole}
+use Rattle.topic_model.specs.Profile.{whole}
 use Rattle.session_state.specs.KeptSession.{KeptSession, KeptSessions, session_of}
 use Rattle.session_state.specs.KeptFits.{is_wide, kept_are_within, kept_within, wide_count}
 use Rattle.session_state.specs.WorkerLaws.{parts_within, within_parts}

@@ -3,7 +3,7 @@ use Rattle.std.proofs.Common.{◌≡◌, ℕ, ◌^◌, ◌≤◌, Bool, true, fa
 use Rattle.std.specs.Prelude.{nat_lt, nat_le}
 use Rattle.std.proofs.lemmas.Bool.{and_parts, and_from, eqb-true, eq-eqb, leb-true, lt-ltb}
 use Rattle.wire_fields.specs.Spelled.{spelled_u8, spelled_u16, spelled_text}
-use Rattle.session_terms.specs.Change.{Subscribes}
+use Rattle.session_model.specs.Change.{Subscribes}
 use Rattle.session_state.specs.declared.change.Effect.{Effect}
 use Rattle.session_state.specs.declared.change.Effect.TheVariants.{Began, Ended, Bound, Parted, Subscribed, Replaced, Unsubscribed, Issued, Acked, Received, Done, Passed}
 use Rattle.session_state.specs.declared.change.Began.{Began as Beginning}

@@ -1,7 +1,7 @@
 -- Computed examples: how changes and snapshots are spelled, what is read again, and what spells nothing.
 use Rattle.std.specs.Prelude.{ℕ, ◌+◌, ◌-◌, ◌*◌, ◌==◌, nat_lt, if◌then◌else◌, true, false, List, [], ◌∷◌, ◌++◌, length, Option, Some, None, codes, ◌≡◌, refl}
-use Rattle.shard_terms.specs.declared.sweep.Sweep.{Sweep}
-use Rattle.topic_terms.specs.Levels.{levels_of}
+use Rattle.shard_model.specs.declared.sweep.Sweep.{Sweep}
+use Rattle.topic_model.specs.Levels.{levels_of}
 use Rattle.session_state.specs.declared.batch.Batch.{Batch}
 use Rattle.session_state.specs.declared.change.Change.{Change}
 use Rattle.session_state.specs.declared.change.Effect.{Effect}

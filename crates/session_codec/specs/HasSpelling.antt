@@ -2,13 +2,13 @@
 use Rattle.std.specs.Prelude.{◌≡◌, IsTrue, ℕ, ◌^◌, ◌==◌, ◌&&◌, ◌||◌, not, nat_lt, nat_le, if◌then◌else◌, Bool, true, List, length, is_none, Option, Some, None}
 use Rattle.std.specs.List.{list_all}
 use Rattle.wire_fields.specs.Text.{is_text}
-use Rattle.topic_terms.specs.Levels.{text_of_levels}
-use Rattle.topic_terms.specs.Matching.{is_last}
-use Rattle.topic_terms.specs.Texts.{has, filter_refusal}
-use Rattle.shard_terms.specs.declared.sweep.Sweep.{Sweep}
-use Rattle.session_terms.specs.declared.entry.Version.{Version}
-use Rattle.session_terms.specs.Change.{Subscribes}
-use Rattle.session_terms.specs.FitsSession.{greatest}
+use Rattle.topic_model.specs.Levels.{text_of_levels}
+use Rattle.topic_model.specs.Matching.{is_last}
+use Rattle.topic_model.specs.Texts.{has, filter_refusal}
+use Rattle.shard_model.specs.declared.sweep.Sweep.{Sweep}
+use Rattle.session_model.specs.declared.entry.Version.{Version}
+use Rattle.session_model.specs.Change.{Subscribes}
+use Rattle.session_model.specs.FitsSession.{greatest}
 use Rattle.seq_tracks.specs.declared.marks.Marks.{Marks}
 use Rattle.seq_tracks.specs.PlainTracks.{PlainTracks}
 use Rattle.seq_tracks.specs.InOrder.{are_in_order}

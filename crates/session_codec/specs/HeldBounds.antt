@@ -4,7 +4,7 @@ use Rattle.std.specs.Prelude.{nat_lt, nat_le}
 use Rattle.std.specs.List.{list_all, sum_by}
 use Rattle.std.proofs.lemmas.Bool.{and_parts, eqb-true, leb-true}
 use Rattle.std.proofs.lemmas.List.Sums.{sum_by-cons}
-use Rattle.topic_terms.specs.Profile.{whole}
+use Rattle.topic_model.specs.Profile.{whole}
 use Rattle.seq_tracks.specs.PlainTracks.{PlainTracks, in_use}
 use Rattle.seq_tracks.specs.InOrder.{are_in_order, ascend}
 use Rattle.session_state.specs.KeptSub.{KeptSub}

@@ -6,11 +6,11 @@ use Rattle.std.proofs.lemmas.List.{length-set}
 use Rattle.std.proofs.lemmas.List.Folds.{list_all-append}
 use Rattle.std.proofs.lemmas.Option.{same_Some}
 use Rattle.std.proofs.lemmas.Slice.Eq.{bytes_eq-Decides}
-use Rattle.topic_terms.specs.Profile.{whole}
-use Rattle.shard_terms.specs.declared.sweep.Sweep.{Sweep}
-use Rattle.session_terms.specs.Acting.{changed_if}
-use Rattle.session_terms.specs.Change.{Subscribes}
-use Rattle.session_terms.specs.FitsSession.{greatest}
+use Rattle.topic_model.specs.Profile.{whole}
+use Rattle.shard_model.specs.declared.sweep.Sweep.{Sweep}
+use Rattle.session_model.specs.Acting.{changed_if}
+use Rattle.session_model.specs.Change.{Subscribes}
+use Rattle.session_model.specs.FitsSession.{greatest}
 use Rattle.seq_tracks.specs.PlainTracks.{PlainTracks, in_use}
 use Rattle.seq_tracks.specs.InOrder.{InOrder, are_in_order, ascend}
 use Rattle.seq_tracks.specs.OrderLaws.{in_order-from_test, test-from_in_order}

@@ -2,10 +2,10 @@
 use Rattle.std.proofs.Common.{◌≡◌, ℕ, Bool, true, false, ◌||◌, not, eqb, if◌then◌else◌, List, [], ◌∷◌, ◌++◌, refl, ap, ◌∙◌}
 use Rattle.std.specs.List.{list_all}
 use Rattle.std.proofs.lemmas.Bool.{and_parts, and_from, eq-eqb}
-use Rattle.topic_terms.specs.Levels.{pieces, onto_first, joined_after, levels_of, text_of_levels}
-use Rattle.topic_terms.specs.LevelsLaws.{some_piece}
-use Rattle.topic_terms.specs.Matching.{is_last}
-use Rattle.topic_terms.specs.Texts.{has}
+use Rattle.topic_model.specs.Levels.{pieces, onto_first, joined_after, levels_of, text_of_levels}
+use Rattle.topic_model.specs.laws.LevelsLaws.{some_piece}
+use Rattle.topic_model.specs.Matching.{is_last}
+use Rattle.topic_model.specs.Texts.{has}
 use Rattle.session_codec.specs.HasSpelling.{are_levels}
 
 abbrev bare : ℕ → List ℕ → Bool

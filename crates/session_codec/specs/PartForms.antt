@@ -8,12 +8,12 @@ use Rattle.wire_fields.specs.Spelled.{spelled_u8, spelled_u16, spelled_u32, spel
 use Rattle.wire_fields.specs.Reading.{AreBytes}
 use Rattle.wire_fields.specs.NumberLaws.{u8_again, u8_takes, u16_again, u16_takes, u32_again, u32_takes, u64_again, u64_takes}
 use Rattle.wire_fields.specs.SizedLaws.{text_again, text_takes}
-use Rattle.topic_terms.specs.Levels.{levels_of, text_of_levels}
-use Rattle.topic_terms.specs.LevelsLaws.{text_of-levels_of}
-use Rattle.topic_terms.specs.Texts.{filter_refusal}
-use Rattle.shard_terms.specs.declared.sweep.Sweep.{Sweep}
-use Rattle.session_terms.specs.declared.entry.Version.{Version}
-use Rattle.session_terms.specs.FitsSession.{greatest}
+use Rattle.topic_model.specs.Levels.{levels_of, text_of_levels}
+use Rattle.topic_model.specs.laws.LevelsLaws.{text_of-levels_of}
+use Rattle.topic_model.specs.Texts.{filter_refusal}
+use Rattle.shard_model.specs.declared.sweep.Sweep.{Sweep}
+use Rattle.session_model.specs.declared.entry.Version.{Version}
+use Rattle.session_model.specs.FitsSession.{greatest}
 use Rattle.session_state.specs.declared.batch.Batch.{Batch}
 use Rattle.session_state.specs.KeptSub.{KeptSub}
 use Rattle.session_codec.specs.declared.formats.TheConstants.{FIRST_FORMAT, FIRST_WINDOW}

@@ -1,6 +1,6 @@
 -- The parts of which a session is read.
 use Rattle.std.specs.Prelude.{ℕ, Bool, if◌then◌else◌, List, Option, Some, None}
-use Rattle.session_terms.specs.declared.entry.Version.{Version}
+use Rattle.session_model.specs.declared.entry.Version.{Version}
 use Rattle.seq_tracks.specs.PlainTracks.{PlainTracks}
 use Rattle.session_state.specs.declared.batch.Batch.{Batch}
 use Rattle.session_state.specs.KeptSub.{KeptSub}

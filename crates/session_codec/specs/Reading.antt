@@ -2,12 +2,12 @@
 use Rattle.std.specs.Prelude.{ℕ, zero, suc, ◌==◌, nat_lt, if◌then◌else◌, is_none, Bool, List, [], ◌∷◌, Option, Some, None, Result, Ok, Err}
 use Rattle.wire_fields.specs.declared.cut.Cut.{Cut}
 use Rattle.wire_fields.specs.Reading.{u8_at, u16_at, u32_at, u64_at, text_at}
-use Rattle.topic_terms.specs.Levels.{levels_of}
-use Rattle.topic_terms.specs.Texts.{filter_refusal}
-use Rattle.shard_terms.specs.declared.sweep.Sweep.{Sweep}
-use Rattle.session_terms.specs.declared.entry.Version.{Version}
-use Rattle.session_terms.specs.Change.{Subscribes}
-use Rattle.session_terms.specs.FitsSession.{greatest}
+use Rattle.topic_model.specs.Levels.{levels_of}
+use Rattle.topic_model.specs.Texts.{filter_refusal}
+use Rattle.shard_model.specs.declared.sweep.Sweep.{Sweep}
+use Rattle.session_model.specs.declared.entry.Version.{Version}
+use Rattle.session_model.specs.Change.{Subscribes}
+use Rattle.session_model.specs.FitsSession.{greatest}
 use Rattle.seq_tracks.specs.declared.marks.Marks.{Marks}
 use Rattle.seq_tracks.specs.PlainTracks.{PlainTracks}
 use Rattle.seq_tracks.specs.InOrder.{are_in_order, tracks_of}

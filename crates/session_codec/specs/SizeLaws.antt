@@ -4,8 +4,8 @@ use Rattle.std.specs.List.{flat_map, sum_by}
 use Rattle.std.proofs.lemmas.List.{length-append}
 use Rattle.std.proofs.lemmas.List.Sums.{sum_by-cons}
 use Rattle.wire_fields.specs.Spelled.{spelled_u16, spelled_u32, spelled_u64, spelled_text}
-use Rattle.topic_terms.specs.Levels.{text_of_levels}
-use Rattle.shard_terms.specs.declared.sweep.Sweep.{Sweep}
+use Rattle.topic_model.specs.Levels.{text_of_levels}
+use Rattle.shard_model.specs.declared.sweep.Sweep.{Sweep}
 use Rattle.session_state.specs.declared.change.Change.{Change}
 use Rattle.session_state.specs.declared.change.Effect.{Effect}
 use Rattle.session_state.specs.declared.change.Effect.TheVariants.{Began, Ended, Bound, Parted, Subscribed, Replaced, Unsubscribed, Issued, Acked, Received, Done, Passed}

@@ -1,8 +1,8 @@
 -- How long spellings are, as numbers.
 use Rattle.std.specs.Prelude.{ℕ, ◌+◌, ◌*◌, ◌==◌, if◌then◌else◌, List, length}
 use Rattle.std.specs.List.{sum_by}
-use Rattle.topic_terms.specs.Levels.{text_of_levels}
-use Rattle.session_terms.specs.Change.{Subscribes}
+use Rattle.topic_model.specs.Levels.{text_of_levels}
+use Rattle.session_model.specs.Change.{Subscribes}
 use Rattle.session_state.specs.declared.change.Change.{Change}
 use Rattle.session_state.specs.declared.change.Effect.{Effect}
 use Rattle.session_state.specs.declared.change.Effect.TheVariants.{Began, Ended, Bound, Parted, Subscribed, Replaced, Unsubscribed, Issued, Acked, Received, Done, Passed}

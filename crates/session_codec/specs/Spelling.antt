@@ -2,11 +2,11 @@
 use Rattle.std.specs.Prelude.{ℕ, ◌==◌, if◌then◌else◌, Bool, List, [], ◌++◌, length, Option, Some, None}
 use Rattle.std.specs.List.{flat_map}
 use Rattle.wire_fields.specs.Spelled.{spelled_u8, spelled_u16, spelled_u32, spelled_u64, spelled_text}
-use Rattle.topic_terms.specs.Levels.{text_of_levels}
-use Rattle.shard_terms.specs.declared.sweep.Sweep.{Sweep}
-use Rattle.session_terms.specs.declared.entry.Version.{Version}
-use Rattle.session_terms.specs.Change.{Subscribes}
-use Rattle.session_terms.specs.FitsSession.{greatest}
+use Rattle.topic_model.specs.Levels.{text_of_levels}
+use Rattle.shard_model.specs.declared.sweep.Sweep.{Sweep}
+use Rattle.session_model.specs.declared.entry.Version.{Version}
+use Rattle.session_model.specs.Change.{Subscribes}
+use Rattle.session_model.specs.FitsSession.{greatest}
 use Rattle.seq_tracks.specs.declared.marks.Marks.{Marks}
 use Rattle.seq_tracks.specs.PlainTracks.{PlainTracks}
 use Rattle.session_state.specs.declared.batch.Batch.{Batch}

@@ -1,6 +1,6 @@
 ghost use Rattle.std.specs.Prelude.{◌≡◌, ◌<◌, drop, [], None, IfOk, IfErr, IsErrOf, IsSome};
-ghost use Rattle.topic_terms.specs.Levels.{levels_of};
-ghost use Rattle.topic_terms.specs.Texts.{filter_refusal};
+ghost use Rattle.topic_model.specs.Levels.{levels_of};
+ghost use Rattle.topic_model.specs.Texts.{filter_refusal};
 ghost use Rattle.wire_fields.specs.Text.{IsText};
 ghost use Rattle.session_codec.specs.Reading.{byte_at, two_at, four_at, eight_at, name_at, flag_at, filter_at, moment_at, window_at, parting_at};
 ghost use Rattle.session_codec.specs.declared.refused.CodecRefused;

@@ -5,7 +5,7 @@ ghost use Rattle.session_state.specs.KeptSession.{KeptSession, KeptSessions};
 ghost use Rattle.session_codec.specs.Spelling.{KeptSnapshot, snapshot_to_write, spelled_changes, spelled_session, spelled_snapshot};
 ghost use Rattle.session_codec.specs.Sizes.{changes_size, snapshot_size};
 ghost use Rattle.session_codec.specs.Bounds.{IsBounded, AreBounded};
-ghost use Rattle.topic_terms.specs.Profile.{whole};
+ghost use Rattle.topic_model.specs.Profile.{whole};
 ghost use Rattle.session_state.specs.KeptActing.{kept_acted, kept_acted_all};
 ghost use Rattle.session_state.specs.KeptFits.{kept_fits, kept_fit_all};
 ghost use Rattle.session_codec.specs.HasSpelling.{fits_change, fits_sessions, have_spelling, has_spelling, SpellsChanges, SpellsSnapshot};

@@ -5,8 +5,8 @@ ghost use Rattle.session_codec.specs.Taking.{TakesPart};
 use crate::fields::{byte_in, eight_in, four_in, two_in};
 use crate::refused::CodecRefused;
 use session_state::Batch;
-use session_terms::Version;
-use shard_terms::Sweep;
+use session_model::Version;
+use shard_model::Sweep;
 use std::alloc::Global;
 
 // Each takes a part from the place `at`, and moves `at` behind it.

@@ -10,7 +10,7 @@ use crate::numbers::put_numbers;
 use crate::putting::{put_batch, put_filter_and_sweeps, put_sweep};
 use crate::tags::tag_of;
 use session_state::{Batch, Began, Change, Effect, Issued, Parted, Passed, Replaced, Subscribed};
-use shard_terms::Sweep;
+use shard_model::Sweep;
 use std::alloc::AllocError;
 use topic_name::Name;
 use wire_fields::{put_text, put_u16};

@@ -5,7 +5,7 @@ ghost use Rattle.session_codec.specs.Taking.{GivesPart};
 use crate::refused::CodecRefused;
 use seq_tracks::Tracks;
 use session_state::{Batch, Session, SessionParts, Sub};
-use session_terms::Version;
+use session_model::Version;
 use topic_name::Name;
 
 /// Whose session it is, and what its connection told.

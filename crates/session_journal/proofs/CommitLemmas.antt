@@ -7,7 +7,7 @@ use Rattle.std.proofs.lemmas.Bool.{and_parts, eqb-true}
 use Rattle.std.proofs.Math.Nat.{le_refl}
 use Rattle.outside.specs.Along.{WithinBoth, keeps_at_first}
 use Rattle.outside.specs.DiskModel.{DiskState}
-use Rattle.topic_terms.specs.Profile.{whole}
+use Rattle.topic_model.specs.Profile.{whole}
 use Rattle.session_state.specs.declared.change.Change.{Change}
 use Rattle.session_state.specs.KeptSession.{KeptSessions}
 use Rattle.session_state.specs.KeptActing.{kept_acted_all}

@@ -4,7 +4,7 @@ use Rattle.std.specs.Prelude.{nat_le}
 use Rattle.std.proofs.lemmas.Bool.{and_parts, leb-true}
 use Rattle.outside.specs.DiskModel.{DiskState}
 use Rattle.gated_log.specs.PlainLog.{PlainLog}
-use Rattle.topic_terms.specs.Limits.{has_known_counts, has_known_generations, has_known_thresholds, is_within_limits, lies_between}
+use Rattle.topic_model.specs.Limits.{has_known_counts, has_known_generations, has_known_thresholds, is_within_limits, lies_between}
 use Rattle.topic_name.specs.declared.config.Config.{Config}
 use Rattle.topic_name.specs.PlainConfig.{plain_config}
 use Rattle.session_state.specs.KeptSession.{KeptSessions}

@@ -1,6 +1,6 @@
 -- What the records of a worker's journal hold: its sessions, or why they hold none.
 use Rattle.std.specs.Prelude.{ℕ, ◌≡◌, ◌⊎◌, ◌+◌, ◌==◌, if◌then◌else◌, List, [], ◌∷◌, length, slice_get, slice_index_or, Option, Some, None}
-use Rattle.topic_terms.specs.Profile.{whole}
+use Rattle.topic_model.specs.Profile.{whole}
 use Rattle.topic_name.specs.declared.mounting.What.{What}
 use Rattle.topic_name.specs.declared.mounting.What.TheVariants.{Format, Shards, Workers, Number}
 use Rattle.session_state.specs.declared.change.Change.{Change}

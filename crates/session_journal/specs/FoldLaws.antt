@@ -3,7 +3,7 @@ use Rattle.std.proofs.Common.{◌≡◌, ℕ, ◌+◌, ◌^◌, ◌<◌, eq-eqb,
 use Rattle.std.specs.Prelude.{slice_get}
 use Rattle.std.proofs.lemmas.Bool.{lt-ltb}
 use Rattle.std.specs.Int.{w64, to_be_bytes}
-use Rattle.topic_terms.specs.Profile.{whole}
+use Rattle.topic_model.specs.Profile.{whole}
 use Rattle.topic_name.specs.declared.mounting.What.TheVariants.{Format}
 use Rattle.session_state.specs.declared.change.Change.{Change}
 use Rattle.session_state.specs.KeptSession.{KeptSessions, no_kept_sessions}

@@ -1,7 +1,7 @@
 // What a journal writes: a record of changes, and a snapshot behind its epoch.
 ghost use Rattle.std.specs.Prelude.{◌≡◌, ◌≤◌, ◌+◌, ◌++◌, IfOk, IsTrue, length, true};
 ghost use Rattle.std.specs.Int.{w64, to_be_bytes};
-ghost use Rattle.topic_terms.specs.Profile.{whole};
+ghost use Rattle.topic_model.specs.Profile.{whole};
 ghost use Rattle.session_state.specs.KeptActing.{kept_acted_all};
 ghost use Rattle.session_state.specs.KeptFits.{kept_fit_all};
 ghost use Rattle.session_codec.specs.Spelling.{snapshot_to_write, spelled_changes, spelled_snapshot};

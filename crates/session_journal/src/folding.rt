@@ -1,6 +1,6 @@
 // What a snapshot and the records behind it hold.
 ghost use Rattle.std.specs.Prelude.{◌≡◌, ◌⊎◌, ◌≤◌, ◌<◌, IsTrue, IfOk, IfErr, OnOk, Ok, length, true};
-ghost use Rattle.topic_terms.specs.Profile.{whole};
+ghost use Rattle.topic_model.specs.Profile.{whole};
 ghost use Rattle.session_state.specs.KeptActing.{kept_acted_all};
 ghost use Rattle.session_state.specs.KeptFits.{kept_fit_all};
 ghost use Rattle.session_codec.specs.HasSpelling.{fits_sessions, is_format};

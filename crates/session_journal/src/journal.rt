@@ -2,7 +2,7 @@
 ghost use Rattle.std.specs.Prelude.{◌≡◌, ◌⊎◌, ◌+◌, ◌*◌, ◌<◌, ◌≤◌, ◌==◌, ◌&&◌, ◌∷◌, ◌++◌, ◌↔◌, [], length, take, drop, nat_le, true, false, OnOk, OnErr, IfOk, IfErr, IsTrue, Ok, Err, vec_len, vec_capacity};
 ghost use Rattle.std.specs.Int.{w64, to_be_bytes};
 ghost use Rattle.outside.specs.DiskModel.{IsArmed};
-ghost use Rattle.topic_terms.specs.Profile.{whole};
+ghost use Rattle.topic_model.specs.Profile.{whole};
 ghost use Rattle.session_state.specs.KeptActing.{kept_acted_all};
 ghost use Rattle.session_state.specs.KeptFits.{kept_fit_all};
 ghost use Rattle.session_codec.specs.Spelling.{snapshot_to_write, spelled_changes, spelled_snapshot};
@@ -10,7 +10,7 @@ ghost use Rattle.session_codec.specs.HasSpelling.{fits_sessions, have_spelling};
 ghost use Rattle.gated_log.specs.declared.settled.Settled.TheVariants.{Out};
 ghost use Rattle.gated_log.specs.Calls.{with_record};
 ghost use Rattle.pair_log.specs.declared.doubt.Doubt.TheVariants.{Nothing, Restart};
-ghost use Rattle.topic_terms.specs.Limits.{is_within_limits};
+ghost use Rattle.topic_model.specs.Limits.{is_within_limits};
 ghost use Rattle.topic_name.specs.PlainConfig.{plain_config};
 ghost use Rattle.session_journal.specs.Mounting.{MountHolds, Mounts, Refuses, asked_by};
 ghost use Rattle.pair_log.specs.Epochs.{next_epoch, read_pair, snapshot_of as behind_epoch};

@@ -1,9 +1,9 @@
 -- What a change leaves of a session holds of every session.
 use Rattle.std.proofs.Common.{◌≡◌, ℕ, true, ◌+◌, List, [], ◌∷◌, ◌++◌, length, take, drop, append-nil, sym, ap, subst, ◌∙◌, arith}
 use Rattle.std.proofs.lemmas.List.{drop_all, take_all}
-use Rattle.topic_terms.specs.Profile.{whole}
-use Rattle.session_terms.specs.Change.{Subscribes}
-use Rattle.session_terms.specs.declared.entry.Version.{Version}
+use Rattle.topic_model.specs.Profile.{whole}
+use Rattle.session_model.specs.Change.{Subscribes}
+use Rattle.session_model.specs.declared.entry.Version.{Version}
 use Rattle.seq_tracks.specs.PlainTracks.{PlainTracks}
 use Rattle.seq_tracks.specs.InOrder.{InOrder}
 use Rattle.session_state.specs.declared.batch.Batch.{Batch}

@@ -9,8 +9,8 @@ use Rattle.std.proofs.lemmas.Map.Keys.{IsDistinct-head, IsDistinct-tail}
 use Rattle.std.proofs.lemmas.Map.Steps.{set_value_same}  -- what a look-up found, written back, changes nothing
 use Rattle.std.proofs.lemmas.Option.{none-some, same_Some}
 use Rattle.std.proofs.lemmas.Slice.Eq.{bytes_eq-Decides}
-use Rattle.topic_terms.specs.Profile.{whole}
-use Rattle.session_terms.specs.Acting.{changed_if}
+use Rattle.topic_model.specs.Profile.{whole}
+use Rattle.session_model.specs.Acting.{changed_if}
 use Rattle.session_state.specs.declared.change.Effect.{Effect}
 use Rattle.session_state.specs.declared.change.Effect.TheVariants.{Began, Ended, Bound, Parted, Subscribed, Replaced, Unsubscribed, Issued, Acked, Received, Done, Passed}
 use Rattle.session_state.specs.KeptSession.{KeptSession, KeptSessions, sessions_in, AreKeyed}

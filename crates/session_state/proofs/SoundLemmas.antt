@@ -4,8 +4,8 @@ use Rattle.std.specs.List.{list_all}
 use Rattle.std.proofs.lemmas.Bool.{and_parts}
 use Rattle.std.proofs.lemmas.Bool.Decides.{nat_tests}
 use Rattle.std.proofs.lemmas.List.Sums.{sum_by_more, sum_by-take-le}
-use Rattle.topic_terms.specs.Levels.{text_of_levels}
-use Rattle.session_terms.specs.Acting.{numbers_from}
+use Rattle.topic_model.specs.Levels.{text_of_levels}
+use Rattle.session_model.specs.Acting.{numbers_from}
 use Rattle.session_state.specs.KeptSub.{KeptSub}
 use Rattle.session_state.specs.KeptFits.{text_bytes}
 use Rattle.session_state.specs.RunLaws.{from-first}

@@ -7,12 +7,12 @@ use Rattle.std.proofs.Math.Bool.{and-true}
 use Rattle.std.proofs.lemmas.List.Elements.{filter-append}
 use Rattle.std.proofs.lemmas.List.Folds.{list_any-append, list_all-append}
 use Rattle.std.proofs.lemmas.List.Sums.{sum_by_push}
-use Rattle.topic_terms.specs.Profile.{whole}
-use Rattle.topic_terms.specs.Levels.{text_of_levels}
-use Rattle.topic_terms.specs.Texts.{filter_refusal}
-use Rattle.session_terms.specs.Change.{Subscribes}
-use Rattle.session_terms.specs.Acting.{changed_if}
-use Rattle.session_terms.specs.declared.entry.Version.{Version}
+use Rattle.topic_model.specs.Profile.{whole}
+use Rattle.topic_model.specs.Levels.{text_of_levels}
+use Rattle.topic_model.specs.Texts.{filter_refusal}
+use Rattle.session_model.specs.Change.{Subscribes}
+use Rattle.session_model.specs.Acting.{changed_if}
+use Rattle.session_model.specs.declared.entry.Version.{Version}
 use Rattle.seq_tracks.specs.PlainTracks.{PlainTracks, in_use}
 use Rattle.seq_tracks.specs.InOrder.{InOrder}
 use Rattle.seq_tracks.specs.Changed.{issued_tracks}

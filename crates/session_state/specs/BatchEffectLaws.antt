@@ -6,10 +6,10 @@ use Rattle.std.proofs.lemmas.Bool.Decides.{nat_tests}
 use Rattle.std.proofs.lemmas.List.{length-set}
 use Rattle.std.proofs.lemmas.List.Sums.{sum_by_push, sum_by-cons}
 use Rattle.std.proofs.lemmas.Option.{none-some, same_Some}
-use Rattle.session_terms.specs.declared.entry.Version.{Version}
-use Rattle.session_terms.specs.Acting.{changed_if}
-use Rattle.session_terms.specs.DoneLaws.{has}
-use Rattle.session_terms.specs.FitsSession.{is_between}
+use Rattle.session_model.specs.declared.entry.Version.{Version}
+use Rattle.session_model.specs.Acting.{changed_if}
+use Rattle.session_model.specs.laws.DoneLaws.{has}
+use Rattle.session_model.specs.FitsSession.{is_between}
 use Rattle.seq_tracks.specs.PlainTracks.{has_room_for, is_done, last_of, mark_of}
 use Rattle.seq_tracks.specs.InOrder.{InOrder}
 use Rattle.seq_tracks.specs.Changed.{issued_tracks}

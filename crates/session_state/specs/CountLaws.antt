@@ -5,9 +5,9 @@ use Rattle.std.proofs.lemmas.Bool.{and_parts, and_from, or_cases, eqb-true}
 use Rattle.std.proofs.lemmas.Bool.Decides.{nat_tests}
 use Rattle.std.proofs.lemmas.List.{length-map}
 use Rattle.std.proofs.lemmas.List.Folds.{list_any-append}
-use Rattle.topic_terms.specs.Profile.{whole}
-use Rattle.session_terms.specs.DoneLaws.{has}
-use Rattle.session_terms.specs.declared.entry.Version.{Version}
+use Rattle.topic_model.specs.Profile.{whole}
+use Rattle.session_model.specs.laws.DoneLaws.{has}
+use Rattle.session_model.specs.declared.entry.Version.{Version}
 use Rattle.seq_tracks.specs.PlainTracks.{in_use}
 use Rattle.session_state.specs.declared.batch.Batch.{Batch}
 use Rattle.session_state.specs.KeptSub.{KeptSub}

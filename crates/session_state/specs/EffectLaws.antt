@@ -3,8 +3,8 @@ use Rattle.std.proofs.Common.{◌≡◌, ◌⊎◌, inl, inr, ℕ, zero, suc, �
 use Rattle.std.specs.List.{list_all}
 use Rattle.std.proofs.lemmas.Bool.{and_parts, and_from, or_cases, or_right, or_parts}
 use Rattle.std.proofs.lemmas.Bool.Decides.{nat_tests}
-use Rattle.session_terms.specs.Acting.{numbers_from}
-use Rattle.session_terms.specs.FitsSession.{is_between}
+use Rattle.session_model.specs.Acting.{numbers_from}
+use Rattle.session_model.specs.FitsSession.{is_between}
 use Rattle.seq_tracks.specs.PlainTracks.{PlainTracks, is_done, is_unfinished1, is_unfinished2, mark_of, last_of}
 use Rattle.seq_tracks.specs.InOrder.{InOrder}
 use Rattle.seq_tracks.specs.Changed.{acked_tracks, received_tracks, done_tracks, passed_tracks, with_done}

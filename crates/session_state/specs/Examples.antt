@@ -1,9 +1,9 @@
 -- Computed examples of kept sessions: what each change makes, when it fits, and what is kept.
 use Rattle.std.specs.Prelude.{ℕ, ◌≡◌, Bool, true, false, List, [], ◌∷◌, length, map, codes, Option, Some, None, refl}
-use Rattle.topic_terms.specs.Profile.{whole}
-use Rattle.topic_terms.specs.Levels.{levels_of}
-use Rattle.shard_terms.specs.declared.sweep.Sweep.{Sweep}
-use Rattle.session_terms.specs.declared.entry.Version.{Version}
+use Rattle.topic_model.specs.Profile.{whole}
+use Rattle.topic_model.specs.Levels.{levels_of}
+use Rattle.shard_model.specs.declared.sweep.Sweep.{Sweep}
+use Rattle.session_model.specs.declared.entry.Version.{Version}
 use Rattle.seq_tracks.specs.PlainTracks.{room}
 use Rattle.session_state.specs.declared.batch.Batch.{Batch}
 use Rattle.session_state.specs.declared.change.Change.{Change}

@@ -2,9 +2,9 @@
 use Rattle.std.specs.Prelude.{ℕ, ◌+◌, Bool, true, false, ◌&&◌, ◌||◌, not, ◌==◌, List, [], ◌∷◌, ◌++◌, map, filter, slice_set, Some, None}
 use Rattle.std.specs.List.{list_any}
 use Rattle.std.specs.Str.{bytes_eq}
-use Rattle.session_terms.specs.declared.entry.Version.{Version}
-use Rattle.session_terms.specs.Change.{Subscribes}
-use Rattle.session_terms.specs.Acting.{changed_if, numbers_from}
+use Rattle.session_model.specs.declared.entry.Version.{Version}
+use Rattle.session_model.specs.Change.{Subscribes}
+use Rattle.session_model.specs.Acting.{changed_if, numbers_from}
 use Rattle.seq_tracks.specs.PlainTracks.{PlainTracks, is_unfinished1, is_unfinished2}
 use Rattle.seq_tracks.specs.Changed.{acked_tracks, received_tracks, done_tracks, passed_tracks, issued_tracks}
 use Rattle.session_state.specs.declared.batch.Batch.{Batch}

@@ -1,11 +1,11 @@
 -- When a change fits kept sessions.
 use Rattle.std.specs.Prelude.{ℕ, ◌+◌, Bool, true, false, ◌&&◌, ◌||◌, ◌==◌, nat_le, nat_lt, List, [], ◌∷◌, length, filter, slice_get, Option, Some, None, is_some, is_none}
 use Rattle.std.specs.List.{list_all, sum_by}
-use Rattle.topic_terms.specs.Profile.{Profile}
-use Rattle.topic_terms.specs.Levels.{text_of_levels}
-use Rattle.topic_terms.specs.Texts.{filter_refusal}
-use Rattle.session_terms.specs.Change.{Subscribes}
-use Rattle.session_terms.specs.FitsSession.{greatest, greatest_of_four, is_between}
+use Rattle.topic_model.specs.Profile.{Profile}
+use Rattle.topic_model.specs.Levels.{text_of_levels}
+use Rattle.topic_model.specs.Texts.{filter_refusal}
+use Rattle.session_model.specs.Change.{Subscribes}
+use Rattle.session_model.specs.FitsSession.{greatest, greatest_of_four, is_between}
 use Rattle.seq_tracks.specs.PlainTracks.{PlainTracks, has_room_for, in_use, is_released, last_of, mark_of}
 use Rattle.session_state.specs.declared.batch.Batch.{Batch}
 use Rattle.session_state.specs.declared.change.Change.{Change}

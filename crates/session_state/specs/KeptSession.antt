@@ -1,7 +1,7 @@
 -- A session as it is kept, and the sessions of a worker.
 use Rattle.std.specs.Prelude.{◌≡◌, ℕ, List, [], ◌∷◌, ◌==◌, map, find, Option, None}
 use Rattle.std.specs.Str.{bytes_eq}
-use Rattle.session_terms.specs.declared.entry.Version.{Version}
+use Rattle.session_model.specs.declared.entry.Version.{Version}
 use Rattle.seq_tracks.specs.PlainTracks.{PlainTracks, no_tracks}
 use Rattle.session_state.specs.declared.batch.Batch.{Batch}
 use Rattle.session_state.specs.KeptSub.{KeptSub}

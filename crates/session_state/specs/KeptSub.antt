@@ -1,6 +1,6 @@
 -- A subscription as a session keeps it.
 use Rattle.std.specs.Prelude.{ℕ, Bool, List}
-use Rattle.shard_terms.specs.declared.sweep.Sweep.{Sweep}
+use Rattle.shard_model.specs.declared.sweep.Sweep.{Sweep}
 
 -- Its number, whether it is live, its present version, the levels of its filter, and how far it is in each shard. One that was ended has no
 -- sweeps.

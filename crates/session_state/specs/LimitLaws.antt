@@ -4,14 +4,14 @@ use Rattle.std.specs.List.{list_all}
 use Rattle.std.proofs.lemmas.Bool.{and_parts, and_from}
 use Rattle.std.proofs.lemmas.Bool.Decides.{nat_tests}
 use Rattle.std.proofs.lemmas.List.Sums.{sum_by-cons}
-use Rattle.topic_terms.specs.Profile.{whole}
-use Rattle.topic_terms.specs.Levels.{text_of_levels}
-use Rattle.topic_terms.specs.Texts.{filter_refusal}
-use Rattle.session_terms.specs.Acting.{changed_if, numbers_from}
-use Rattle.session_terms.specs.FitsSession.{is_between}
+use Rattle.topic_model.specs.Profile.{whole}
+use Rattle.topic_model.specs.Levels.{text_of_levels}
+use Rattle.topic_model.specs.Texts.{filter_refusal}
+use Rattle.session_model.specs.Acting.{changed_if, numbers_from}
+use Rattle.session_model.specs.FitsSession.{is_between}
 use Rattle.seq_tracks.specs.PlainTracks.{PlainTracks, in_use, mark_of, last_of}
 use Rattle.seq_tracks.specs.Changed.{acked_tracks, passed_tracks, complete_with, with_done}
-use Rattle.session_terms.specs.Change.{Subscribes}
+use Rattle.session_model.specs.Change.{Subscribes}
 use Rattle.session_state.specs.declared.change.Effect.{Effect}
 use Rattle.session_state.specs.declared.change.Issued.{Issued as Issuing}
 use Rattle.session_state.specs.declared.change.Effect.TheVariants.{Began, Ended, Bound, Parted, Subscribed, Replaced, Unsubscribed, Issued, Acked, Received, Done, Passed}

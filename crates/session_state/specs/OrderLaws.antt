@@ -1,7 +1,7 @@
 -- A change that fits leaves the tracks of a session in order.
 use Rattle.std.proofs.Common.{◌≡◌, ℕ, ◌+◌, ◌≤◌, ◌<◌, true, ◌&&◌, ◌||◌, not, ◌==◌, nat_le, nat_lt}
 use Rattle.std.proofs.lemmas.Bool.{and_parts, leb-true, ltb-true}
-use Rattle.session_terms.specs.FitsSession.{is_between}
+use Rattle.session_model.specs.FitsSession.{is_between}
 use Rattle.seq_tracks.specs.PlainTracks.{PlainTracks, has_room_for, is_done, last_of, mark_of}
 use Rattle.seq_tracks.specs.InOrder.{InOrder}
 use Rattle.seq_tracks.specs.KeepLaws.{acked_in_order, received_in_order, done_in_order, passed_in_order, issued_in_order}

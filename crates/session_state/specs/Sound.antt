@@ -1,6 +1,6 @@
 -- What holds of every session that is held.
 use Rattle.std.specs.Prelude.{◌≡◌, ℕ, List, true}
-use Rattle.topic_terms.specs.Profile.{whole}
+use Rattle.topic_model.specs.Profile.{whole}
 use Rattle.session_state.specs.KeptSession.{KeptSession, AreKeyed, sessions_in}
 use Rattle.session_state.specs.KeptActing.{kept_batches, kept_versions, kept_subs}
 use Rattle.session_state.specs.KeptFits.{kept_within, kept_are_within}

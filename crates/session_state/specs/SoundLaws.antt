@@ -3,13 +3,13 @@ use Rattle.std.proofs.Common.{◌≡◌, ◌⊎◌, inl, inr, ℕ, zero, suc, �
 use Rattle.std.specs.List.{list_all, list_any}
 use Rattle.std.proofs.lemmas.Bool.{and_parts, and_from, or_cases}
 use Rattle.std.proofs.lemmas.Bool.Decides.{nat_tests}
-use Rattle.session_terms.specs.Acting.{numbers_from}
-use Rattle.session_terms.specs.DoneLaws.{has}
+use Rattle.session_model.specs.Acting.{numbers_from}
+use Rattle.session_model.specs.laws.DoneLaws.{has}
 use Rattle.seq_tracks.specs.PlainTracks.{PlainTracks, in_use, is_unfinished1, is_unfinished2}
 use Rattle.session_state.specs.declared.batch.Batch.{Batch}
 use Rattle.session_state.specs.FactLaws.{facts_from_test}
 use Rattle.session_state.specs.FilterLaws.{kept_cons}
-use Rattle.topic_terms.specs.Profile.{whole}
+use Rattle.topic_model.specs.Profile.{whole}
 use Rattle.seq_tracks.specs.InOrder.{InOrder}
 use Rattle.session_state.specs.declared.change.Effect.{Effect}
 use Rattle.session_state.specs.KeptSession.{KeptSession}

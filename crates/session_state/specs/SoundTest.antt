@@ -1,10 +1,10 @@
 -- Which sessions may be held, as a test: the facts that each session keeps from its begin on.
 use Rattle.std.specs.Prelude.{ℕ, ◌+◌, ◌-◌, Bool, true, ◌&&◌, ◌||◌, not, ◌==◌, nat_le, nat_lt, List, [], ◌∷◌, ◌++◌, map, count_by, length, is_none}
 use Rattle.std.specs.List.{list_all, list_any}
-use Rattle.topic_terms.specs.Profile.{whole}
-use Rattle.session_terms.specs.declared.entry.Version.{Version}
-use Rattle.session_terms.specs.Acting.{numbers_from}
-use Rattle.session_terms.specs.DoneLaws.{has}
+use Rattle.topic_model.specs.Profile.{whole}
+use Rattle.session_model.specs.declared.entry.Version.{Version}
+use Rattle.session_model.specs.Acting.{numbers_from}
+use Rattle.session_model.specs.laws.DoneLaws.{has}
 use Rattle.seq_tracks.specs.PlainTracks.{PlainTracks, is_unfinished1, is_unfinished2}
 use Rattle.session_state.specs.declared.batch.Batch.{Batch}
 use Rattle.session_state.specs.KeptSub.{KeptSub}

@@ -5,10 +5,10 @@ use Rattle.std.proofs.lemmas.Bool.{and_parts, and_from, or_right, eqb-true}
 use Rattle.std.proofs.lemmas.Bool.Decides.{nat_tests}
 use Rattle.std.proofs.lemmas.List.{map-append}
 use Rattle.std.proofs.lemmas.List.Folds.{list_all-append}
-use Rattle.session_terms.specs.Change.{Subscribes}
-use Rattle.session_terms.specs.declared.entry.Version.{Version}
-use Rattle.session_terms.specs.Acting.{changed_if}
-use Rattle.session_terms.specs.FitsSession.{greatest_of_four}
+use Rattle.session_model.specs.Change.{Subscribes}
+use Rattle.session_model.specs.declared.entry.Version.{Version}
+use Rattle.session_model.specs.Acting.{changed_if}
+use Rattle.session_model.specs.FitsSession.{greatest_of_four}
 use Rattle.session_state.specs.declared.batch.Batch.{Batch}
 use Rattle.session_state.specs.declared.change.Replaced.{Replaced as Replacing}
 use Rattle.session_state.specs.KeptSub.{KeptSub}

@@ -6,8 +6,8 @@ use Rattle.std.proofs.lemmas.Bool.{and_parts, and_from}
 use Rattle.std.proofs.lemmas.Bool.Decides.{nat_tests}
 use Rattle.std.proofs.lemmas.List.Elements.{filter-append}
 use Rattle.std.proofs.lemmas.List.Folds.{list_all-append}
-use Rattle.topic_terms.specs.Profile.{whole}
-use Rattle.session_terms.specs.FitsSession.{greatest}
+use Rattle.topic_model.specs.Profile.{whole}
+use Rattle.session_model.specs.FitsSession.{greatest}
 use Rattle.session_state.specs.declared.change.Began.{Began as Beginning}
 use Rattle.session_state.specs.declared.change.Effect.{Effect}
 use Rattle.session_state.specs.declared.change.Effect.TheVariants.{Began, Ended, Bound, Parted, Subscribed, Replaced, Unsubscribed, Issued, Acked, Received, Done, Passed}

@@ -1,7 +1,7 @@
 ghost use Rattle.std.specs.Prelude.{◌≡◌, IfOk};
 
 use crate::Batch;
-use shard_terms::Sweep;
+use shard_model::Sweep;
 use std::alloc::AllocError;
 use std::marker::Model;
 use topic_name::{Filter, Name};
@@ -111,7 +111,7 @@ pub struct Subscribed {
 }
 
 impl Model for Subscribed {
-    ghost use Rattle.session_terms.specs.Change.{Subscribes};
+    ghost use Rattle.session_model.specs.Change.{Subscribes};
 
     ghost Value = { Subscribes };
 

@@ -1,13 +1,13 @@
 // What a session keeps: batches with unfinished deliveries, and the versions and subscriptions that are needed.
 ghost use Rattle.std.specs.Prelude.{◌≡◌, ◌-◌, ◌⊎◌};
 ghost use Rattle.std.specs.List.{list_any};
-ghost use Rattle.session_terms.specs.Acting.{numbers_from};
+ghost use Rattle.session_model.specs.Acting.{numbers_from};
 ghost use Rattle.seq_tracks.specs.PlainTracks.{is_unfinished};
 ghost use Rattle.session_state.specs.KeptActing.{has_unfinished, kept_batches, kept_versions, kept_subs, is_present, is_named, has_version};
 
 use crate::{Batch, Sub};
 use seq_tracks::Tracks;
-use session_terms::Version;
+use session_model::Version;
 
 /// Drops the batches that are finished, and if there were some, the versions and the ended subscriptions that are then
 /// no longer needed. Where none was finished it looks at the batches alone.

@@ -1,5 +1,5 @@
 ghost use Rattle.std.specs.Prelude.{◌≡◌, ◌≤◌, ◌+◌, length, true};
-ghost use Rattle.topic_terms.specs.Profile.{whole};
+ghost use Rattle.topic_model.specs.Profile.{whole};
 ghost use Rattle.seq_tracks.specs.InOrder.{InOrder};
 ghost use Rattle.session_state.specs.declared.change.Effect.{Effect};
 ghost use Rattle.session_state.specs.KeptSession.{KeptSession};

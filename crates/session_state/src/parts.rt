@@ -1,5 +1,5 @@
 ghost use Rattle.std.specs.Prelude.{◌≡◌, ◌&&◌};
-ghost use Rattle.topic_terms.specs.Profile.{whole};
+ghost use Rattle.topic_model.specs.Profile.{whole};
 ghost use Rattle.session_state.specs.KeptFits.{kept_within};
 ghost use Rattle.session_state.specs.SoundTest.{are_issued, each_lies1, each_lies2, has_facts, has_numbers, is_sound, is_tidy, names_held};
 
@@ -10,7 +10,7 @@ use crate::sound::{
 };
 use crate::{Batch, Sub};
 use seq_tracks::Tracks;
-use session_terms::Version;
+use session_model::Version;
 use std::marker::Model;
 use topic_name::Name;
 

@@ -1,6 +1,6 @@
 ghost use Rattle.std.specs.Prelude.{◌≡◌, ◌≤◌, ◌+◌, length, true, IfOk, IsTrue};
 ghost use Rattle.std.specs.Option.{SomeIff};
-ghost use Rattle.topic_terms.specs.Profile.{whole};
+ghost use Rattle.topic_model.specs.Profile.{whole};
 ghost use Rattle.session_state.specs.KeptSession.{begun_kept};
 ghost use Rattle.session_state.specs.KeptFits.{kept_within};
 ghost use Rattle.session_state.specs.SoundTest.{is_sound};
@@ -11,7 +11,7 @@ mod suiting;
 use crate::sub::copy_all;
 use crate::{Batch, Began, SessionParts, Sub};
 use seq_tracks::Tracks;
-use session_terms::Version;
+use session_model::Version;
 use std::alloc::{AllocError, Global};
 use std::marker::Model;
 pub use suiting::{MOST_FILTER_TEXTS, MOST_SUBSCRIPTIONS};

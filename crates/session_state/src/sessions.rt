@@ -1,7 +1,7 @@
 ghost use Rattle.std.specs.Prelude.{◌≡◌, ◌==◌, ◌++◌, ◌∷◌, [], ◌&&◌, ◌||◌, not, nat_lt, length, slice_get, IsTrue, IfOk, OnErr, if◌then◌else◌};
 ghost use Rattle.std.specs.Option.{option_copied};
-ghost use Rattle.topic_terms.specs.Profile.{whole};
-ghost use Rattle.session_terms.specs.FitsSession.{greatest};
+ghost use Rattle.topic_model.specs.Profile.{whole};
+ghost use Rattle.session_model.specs.FitsSession.{greatest};
 ghost use Rattle.session_state.specs.KeptSession.{no_kept_sessions, session_of};
 ghost use Rattle.session_state.specs.KeptActing.{acted_on, change_of, is_of_held, kept_acted};
 ghost use Rattle.session_state.specs.KeptFits.{kept_are_within, kept_fits, wide_count};

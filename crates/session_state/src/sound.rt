@@ -1,12 +1,12 @@
 // Whether a session may be held, which is asked of one that was read.
 ghost use Rattle.std.specs.Prelude.{◌≡◌, ◌≤◌, ◌==◌, ◌+◌, ◌-◌, ◌&&◌, ◌||◌, ◌⊎◌, not, ℕ, true, count_by, nat_le, length};
 ghost use Rattle.std.specs.List.{list_all, list_any};
-ghost use Rattle.topic_terms.specs.Profile.{whole};
-ghost use Rattle.session_terms.specs.Acting.{numbers_from};
-ghost use Rattle.session_terms.specs.DoneLaws.{has};
+ghost use Rattle.topic_model.specs.Profile.{whole};
+ghost use Rattle.session_model.specs.Acting.{numbers_from};
+ghost use Rattle.session_model.specs.laws.DoneLaws.{has};
 ghost use Rattle.session_state.specs.declared.batch.Batch.{Batch};
 ghost use Rattle.seq_tracks.specs.PlainTracks.{is_unfinished1, is_unfinished2};
-ghost use Rattle.session_terms.specs.declared.entry.Version.{Version};
+ghost use Rattle.session_model.specs.declared.entry.Version.{Version};
 ghost use Rattle.session_state.specs.KeptSub.{KeptSub};
 ghost use Rattle.session_state.specs.KeptActing.{has_unfinished, numbers1_of, numbers2_of};
 ghost use Rattle.session_state.specs.KeptFits.{has_filters, live_count, subs_within, text_bytes};
@@ -17,7 +17,7 @@ use crate::session::{MOST_FILTER_TEXTS, MOST_SUBSCRIPTIONS};
 use crate::subs::live_count;
 use crate::{Batch, Sub};
 use seq_tracks::Tracks;
-use session_terms::Version;
+use session_model::Version;
 
 // Whether the subscriptions are within the limits. Their filters are, by their type.
 pub(crate) fn subs_within(subs: &[Sub]) -> bool

@@ -1,6 +1,6 @@
 ghost use Rattle.std.specs.Prelude.{◌≡◌, IfOk};
 
-use shard_terms::Sweep;
+use shard_model::Sweep;
 use std::alloc::{AllocError, Global};
 use std::marker::Model;
 use topic_name::Filter;

@@ -1,14 +1,14 @@
 // The subscriptions of a session, and what a change does to one of them.
 ghost use Rattle.std.specs.Prelude.{◌≡◌, ◌==◌, ◌<◌, ◌^◌, false, [], find, slice_set, IfOk};
 ghost use Rattle.std.specs.Option.{option_copied};
-ghost use Rattle.topic_terms.specs.Levels.{text_of_levels};
-ghost use Rattle.session_terms.specs.Acting.{changed_if};
+ghost use Rattle.topic_model.specs.Levels.{text_of_levels};
+ghost use Rattle.session_model.specs.Acting.{changed_if};
 ghost use Rattle.session_state.specs.KeptSub.{KeptSub};
 ghost use Rattle.session_state.specs.KeptActing.{on_sub, new_sub};
 ghost use Rattle.session_state.specs.KeptFits.{live_count, text_bytes};
 
 use crate::{Sub, Subscribed};
-use shard_terms::Sweep;
+use shard_model::Sweep;
 use std::alloc::AllocError;
 
 // The first with this number.

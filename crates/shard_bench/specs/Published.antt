@@ -1,6 +1,6 @@
 -- The message that is appended, and the groups of it that a shard may be asked.
 use Rattle.std.specs.Prelude.{ℕ, ◌≡◌, true, List, [], ◌∷◌, None, replicate, refl}
-use Rattle.topic_terms.specs.Profile.{Config}
+use Rattle.topic_model.specs.Profile.{Config}
 use Rattle.topic_name.specs.KeptMessage.{KeptMessage}
 use Rattle.record_codec.specs.Computing.{reading}
 use Rattle.record_codec.specs.declared.group.Op.{Op}

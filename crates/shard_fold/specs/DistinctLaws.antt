@@ -8,9 +8,9 @@ use Rattle.std.proofs.lemmas.List.Folds.{list_any_at}
 use Rattle.std.proofs.lemmas.List.Kept.{AllPairs-filter}
 use Rattle.std.proofs.lemmas.List.Quantifiers.{all_pairs_push}
 use Rattle.std.proofs.lemmas.Map.Made.{IsDistinct-from_AllPairs}
-use Rattle.topic_terms.specs.StoredMessage.{StoredMessage}
-use Rattle.shard_terms.specs.ShardList.{Awaited, ShardList}
-use Rattle.shard_terms.specs.Storing.{Store as PlainStore, act_if, acts, awaits, becomes_awaited, is_awaited_as, is_of, triple_of}
+use Rattle.topic_model.specs.StoredMessage.{StoredMessage}
+use Rattle.shard_model.specs.ShardList.{Awaited, ShardList}
+use Rattle.shard_model.specs.Storing.{Store as PlainStore, act_if, acts, awaits, becomes_awaited, is_awaited_as, is_of, triple_of}
 use Rattle.shard_index.specs.Absorbing.{absorbed, absorbed_all, has_place, may_add}
 use Rattle.shard_index.specs.Triples.{are_distinct, are_new_behind, same_triple, same_triple_is, same_triple_itself}
 use Rattle.record_codec.specs.Records.{index_op, index_ops}

@@ -1,11 +1,11 @@
 -- Computed examples: what the records of a shard hold, and what of them is refused, at which place.
 use Rattle.std.specs.Prelude.{ℕ, ◌≡◌, List, [], ◌∷◌, ◌++◌, Option, Some, None, codes, refl}
-use Rattle.topic_terms.specs.Levels.{levels_of}
-use Rattle.topic_terms.specs.StoredMessage.{StoredMessage}
+use Rattle.topic_model.specs.Levels.{levels_of}
+use Rattle.topic_model.specs.StoredMessage.{StoredMessage}
 use Rattle.topic_name.specs.PlainConfig.{plain_config}
 use Rattle.topic_name.specs.declared.descriptor.Descriptor.{Descriptor}
 use Rattle.topic_name.specs.declared.mounting.What.TheVariants.{Format, Shards, Workers, Number}
-use Rattle.shard_terms.specs.ShardList.{Awaited, Cut, opening_list}
+use Rattle.shard_model.specs.ShardList.{Awaited, Cut, opening_list}
 use Rattle.record_codec.specs.declared.group.Op.{Op}
 use Rattle.record_codec.specs.declared.group.Op.TheVariants.{Store, Release, Forget}
 use Rattle.record_codec.specs.Spelling.{spelled_group, spelled_manifest, spelled_opening}

@@ -1,12 +1,12 @@
 -- What the records of a shard's disks hold: its list, or why they hold none.
 use Rattle.std.specs.Prelude.{ℕ, ◌+◌, ◌==◌, ◌&&◌, not, is_none, is_some, nat_le, nat_lt, Bool, true, false, if◌then◌else◌, List, [], ◌∷◌, length, slice_get, slice_index_or, Option, Some, None}
 use Rattle.std.specs.List.{list_all, list_any}
-use Rattle.topic_terms.specs.Profile.{whole}
-use Rattle.topic_terms.specs.Limits.{lies_between}
+use Rattle.topic_model.specs.Profile.{whole}
+use Rattle.topic_model.specs.Limits.{lies_between}
 use Rattle.topic_name.specs.declared.descriptor.Descriptor.{Descriptor}
 use Rattle.topic_name.specs.declared.mounting.What.{What}
 use Rattle.topic_name.specs.declared.mounting.What.TheVariants.{Format, Shards, Workers, Number}
-use Rattle.shard_terms.specs.ShardList.{Cut, Awaited, ShardList, next_of}
+use Rattle.shard_model.specs.ShardList.{Cut, Awaited, ShardList, next_of}
 use Rattle.shard_index.specs.KeptIndex.{cut_of}
 use Rattle.shard_index.specs.Triples.{are_distinct, same_triple}
 use Rattle.shard_index.specs.Absorbing.{absorbed_all, all_stand, begun}

@@ -5,10 +5,10 @@ use Rattle.std.specs.List.{list_all, list_any}
 use Rattle.std.specs.Cmp.Derive.{both_true}
 use Rattle.std.proofs.lemmas.Bool.{and_parts, not-true, or_parts}
 use Rattle.std.proofs.lemmas.List.{get_or-set_other, get_or-set_same}
-use Rattle.topic_terms.specs.Profile.{whole}
+use Rattle.topic_model.specs.Profile.{whole}
 use Rattle.topic_name.specs.declared.descriptor.Descriptor.{Descriptor}
 use Rattle.topic_name.specs.PlainConfig.{plain_config}
-use Rattle.shard_terms.specs.ShardList.{ShardList, next_of, opening_list}
+use Rattle.shard_model.specs.ShardList.{ShardList, next_of, opening_list}
 use Rattle.shard_index.specs.Absorbing.{absorbed_all, all_stand}
 use Rattle.record_codec.specs.Records.{KeptGroup, KeptOpening, index_ops}
 use Rattle.record_codec.specs.Spelling.{spelled_group}

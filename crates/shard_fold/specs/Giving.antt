@@ -1,6 +1,6 @@
 -- What is asked, and what the calls give that read a record.
 use Rattle.std.specs.Prelude.{◌≡◌, ◌<◌, true, Result, Ok, Err}
-use Rattle.topic_terms.specs.Limits.{is_within_limits}
+use Rattle.topic_model.specs.Limits.{is_within_limits}
 use Rattle.topic_name.specs.PlainConfig.{plain_config}
 use Rattle.shard_fold.specs.declared.asked.Asked.{Asked}
 use Rattle.shard_fold.specs.declared.unread.Unread.{Unread}

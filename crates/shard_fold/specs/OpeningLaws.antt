@@ -6,10 +6,10 @@ use Rattle.std.specs.Cmp.Derive.{both_true}
 use Rattle.std.proofs.lemmas.Bool.{and_parts}
 use Rattle.std.proofs.lemmas.List.Elements.{All-tail}
 use Rattle.std.proofs.lemmas.List.Sums.{sum_by-cons}
-use Rattle.topic_terms.specs.Profile.{whole}
+use Rattle.topic_model.specs.Profile.{whole}
 use Rattle.topic_name.specs.declared.descriptor.Descriptor.{Descriptor}
-use Rattle.shard_terms.specs.ShardList.{Awaited, Cut, ShardList, newest, newest_messages, newest_of, next_of}
-use Rattle.shard_terms.specs.Capacity.{sealed_at}
+use Rattle.shard_model.specs.ShardList.{Awaited, Cut, ShardList, newest, newest_messages, newest_of, next_of}
+use Rattle.shard_model.specs.Capacity.{sealed_at}
 use Rattle.shard_index.specs.declared.op.IndexOp.TheVariants.{Rotate}
 use Rattle.shard_index.specs.KeptIndex.{KeptIndex, cut_of, list_of}
 use Rattle.shard_index.specs.Absorbing.{absorbed, begun, begun_if, may_begin}

@@ -3,12 +3,12 @@ use Rattle.std.proofs.Common.{◌≡◌, ℕ, ◌+◌, ◌≤◌, Bool, true, fa
 use Rattle.std.specs.Prelude.{is_some, nat_le}
 use Rattle.std.specs.List.{IsDistinct, list_all}
 use Rattle.std.proofs.lemmas.Bool.{and_parts}
-use Rattle.topic_terms.specs.Profile.{whole}
+use Rattle.topic_model.specs.Profile.{whole}
 use Rattle.topic_name.specs.declared.descriptor.Descriptor.{Descriptor}
-use Rattle.shard_terms.specs.ShardList.{Cut, ShardList, newest, newest_of, next_of}
-use Rattle.shard_terms.specs.Storing.{Store as PlainStore, act_if}
-use Rattle.shard_terms.specs.Capacity.{sealed_at}
-use Rattle.shard_terms.specs.Lists.{IsList}
+use Rattle.shard_model.specs.ShardList.{Cut, ShardList, newest, newest_of, next_of}
+use Rattle.shard_model.specs.Storing.{Store as PlainStore, act_if}
+use Rattle.shard_model.specs.Capacity.{sealed_at}
+use Rattle.shard_model.specs.Lists.{IsList}
 use Rattle.shard_index.specs.declared.op.IndexOp.TheVariants.{Rotate}
 use Rattle.shard_index.specs.KeptIndex.{cut_of}
 use Rattle.shard_index.specs.Absorbing.{absorbed, absorbed_all, all_stand, begun, begun_if, may_add, may_begin}

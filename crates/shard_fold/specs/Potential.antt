@@ -1,7 +1,7 @@
 -- How many bytes of records a generation can still take, by its list.
 use Rattle.std.specs.Prelude.{ℕ, ◌+◌, ◌-◌, ◌*◌, ◌≡◌, length, refl}
-use Rattle.topic_terms.specs.Profile.{whole, default_config}
-use Rattle.shard_terms.specs.ShardList.{ShardList, newest, newest_messages, opening_list}
+use Rattle.topic_model.specs.Profile.{whole, default_config}
+use Rattle.shard_model.specs.ShardList.{ShardList, newest, newest_messages, opening_list}
 use Rattle.shard_index.specs.Sound.{newest_bytes}
 
 -- An operation that takes an awaited identifier away has at most 65,548 bytes, and a record has 16 besides its operations, of which there

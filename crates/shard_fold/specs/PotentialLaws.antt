@@ -6,12 +6,12 @@ use Rattle.std.proofs.lemmas.List.{length-append}
 use Rattle.std.proofs.lemmas.List.Elements.{All-tail}
 use Rattle.std.proofs.lemmas.List.Filters.{length-filter_both}
 use Rattle.std.proofs.lemmas.List.Sums.{sum_by-cons}
-use Rattle.topic_terms.specs.Profile.{whole}
-use Rattle.topic_terms.specs.StoredMessage.{StoredMessage}
-use Rattle.shard_terms.specs.ShardList.{Awaited, ShardList, newest, newest_messages, next_of}
-use Rattle.shard_terms.specs.Storing.{Store as PlainStore, act, act_if, acts, becomes_awaited, is_awaited_as, is_of, placed, triple_of}
-use Rattle.shard_terms.specs.Capacity.{fits, store_size}
-use Rattle.shard_terms.specs.Lists.{IsList}
+use Rattle.topic_model.specs.Profile.{whole}
+use Rattle.topic_model.specs.StoredMessage.{StoredMessage}
+use Rattle.shard_model.specs.ShardList.{Awaited, ShardList, newest, newest_messages, next_of}
+use Rattle.shard_model.specs.Storing.{Store as PlainStore, act, act_if, acts, becomes_awaited, is_awaited_as, is_of, placed, triple_of}
+use Rattle.shard_model.specs.Capacity.{fits, store_size}
+use Rattle.shard_model.specs.Lists.{IsList}
 use Rattle.shard_index.specs.Absorbing.{absorbed, absorbed_all, all_stand, has_place, limits, may_add, stands}
 use Rattle.shard_index.specs.GrowLaws.{absorbed_all_grows}
 use Rattle.shard_index.specs.Sound.{newest_bytes}

@@ -2,9 +2,9 @@
 ghost use Rattle.std.specs.Prelude.{◌≡◌, ◌+◌, ◌<◌, ◌≤◌, ◌++◌, ◌∷◌, ℕ, [], All, IsTrue, List, length, slice_index_or, slice_set, true};
 ghost use Rattle.topic_name.specs.declared.descriptor.Descriptor.{Descriptor};
 ghost use Rattle.topic_name.specs.PlainConfig.{plain_config};
-ghost use Rattle.topic_terms.specs.Profile.{whole};
-ghost use Rattle.shard_terms.specs.ShardList.{ShardList, next_of, opening_list};
-ghost use Rattle.shard_terms.specs.Lists.{IsList};
+ghost use Rattle.topic_model.specs.Profile.{whole};
+ghost use Rattle.shard_model.specs.ShardList.{ShardList, next_of, opening_list};
+ghost use Rattle.shard_model.specs.Lists.{IsList};
 ghost use Rattle.shard_index.specs.Absorbing.{absorbed_all, all_stand};
 ghost use Rattle.shard_index.specs.Sound.{newest_bytes};
 ghost use Rattle.record_codec.specs.Records.{KeptGroup, index_ops};

@@ -2,7 +2,7 @@
 ghost use Rattle.std.specs.Prelude.{◌≡◌, ◌+◌, ◌<◌, ◌≤◌, ◌==◌, length, IsTrue, IfOk, Some};
 ghost use Rattle.std.specs.List.{list_all, list_any};
 ghost use Rattle.topic_name.specs.declared.descriptor.Descriptor.{Descriptor as Generation};
-ghost use Rattle.topic_terms.specs.Limits.{lies_between};
+ghost use Rattle.topic_model.specs.Limits.{lies_between};
 ghost use Rattle.record_codec.specs.HasSpelling.{manifest_has_spelling};
 ghost use Rattle.record_codec.specs.Reading.{manifest_in};
 ghost use Rattle.shard_fold.specs.Fold.{are_in_row, are_sound_cuts, as_asked, checked, cuts_in, first_cut, first_manifest, goes_before, have_own_slots, is_known_cut, is_new, is_sound_manifest};

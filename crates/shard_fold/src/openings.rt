@@ -1,7 +1,7 @@
 // Where the generations of a shard begin.
 ghost use Rattle.std.specs.Prelude.{◌≡◌, ◌+◌, ◌≤◌, ◌++◌, ◌∷◌, [], length, true, None, Some, Ok, IfOk, OnOk, OnErr};
 ghost use Rattle.std.specs.List.{IsDistinct};
-ghost use Rattle.shard_terms.specs.ShardList.{newest};
+ghost use Rattle.shard_model.specs.ShardList.{newest};
 ghost use Rattle.shard_index.specs.Absorbing.{sealed_last};
 ghost use Rattle.shard_index.specs.KeptIndex.{list_of};
 ghost use Rattle.shard_index.specs.Triples.{same_triple};

@@ -10,10 +10,10 @@ use Rattle.std.proofs.lemmas.Option.{none-some, same_Some}
 use Rattle.std.specs.Cmp.Derive.{both_true}
 use Rattle.topic_name.specs.declared.descriptor.Descriptor.{Descriptor}
 use Rattle.topic_name.specs.KeptMessage.{KeptMessage}
-use Rattle.topic_terms.specs.Profile.{whole}
-use Rattle.shard_terms.specs.ShardList.{Cut, Awaited, ShardList, newest, next_of, newest_messages}
-use Rattle.shard_terms.specs.Storing.{Store, acts, becomes_awaited}
-use Rattle.shard_terms.specs.Capacity.{store_size}
+use Rattle.topic_model.specs.Profile.{whole}
+use Rattle.shard_model.specs.ShardList.{Cut, Awaited, ShardList, newest, next_of, newest_messages}
+use Rattle.shard_model.specs.Storing.{Store, acts, becomes_awaited}
+use Rattle.shard_model.specs.Capacity.{store_size}
 use Rattle.shard_index.specs.declared.op.IndexOp.TheVariants.{Add, Release, Forget, Rotate, Drop}
 use Rattle.shard_index.specs.KeptIndex.{KeptIndex, cut_of, list_of}
 use Rattle.shard_index.specs.declared.op.IndexOp.{IndexOp}

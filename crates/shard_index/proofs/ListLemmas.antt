@@ -5,7 +5,7 @@ use Rattle.std.proofs.lemmas.List.{take_more}
 use Rattle.std.specs.Set.{remove_key}
 use Rattle.std.proofs.lemmas.Map.Keys.{IsDistinct-head, IsDistinct-tail}
 use Rattle.topic_name.specs.declared.descriptor.Descriptor.{Descriptor}
-use Rattle.shard_terms.specs.ShardList.{Awaited, newest_of}
+use Rattle.shard_model.specs.ShardList.{Awaited, newest_of}
 use Rattle.shard_index.specs.KeptIndex.{cut_of}
 use Rattle.shard_index.specs.Absorbing.{sealed_last}
 use Rattle.shard_index.specs.Triples.{same_triple, same_triple_equiv, same_triple_is}

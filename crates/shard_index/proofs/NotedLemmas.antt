@@ -4,8 +4,8 @@ use Rattle.std.specs.List.{list_any}
 use Rattle.std.specs.Cmp.{nat_eq_equiv}
 use Rattle.std.specs.Cmp.Lexicographic.{nat_list_eq_equiv}
 use Rattle.std.proofs.lemmas.Map.Views.{any-filter_same}
-use Rattle.shard_terms.specs.ShardList.{Awaited}
-use Rattle.shard_terms.specs.Storing.{is_awaited_as, is_of}
+use Rattle.shard_model.specs.ShardList.{Awaited}
+use Rattle.shard_model.specs.Storing.{is_awaited_as, is_of}
 use Rattle.shard_index.specs.Triples.{same_triple_equiv, same_triple_is}
 use Rattle.shard_index.specs.Identifiers.{AreNoted, Identifier, Notes, without_all, without_noted}
 

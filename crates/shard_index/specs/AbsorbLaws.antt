@@ -5,10 +5,10 @@ use Rattle.std.proofs.lemmas.Bool.{and_parts}
 use Rattle.std.proofs.lemmas.List.{map-append, drop-map}
 use Rattle.topic_name.specs.declared.descriptor.Descriptor.{Descriptor}
 use Rattle.topic_name.specs.KeptMessage.{KeptMessage}
-use Rattle.topic_terms.specs.StoredMessage.{StoredMessage}
-use Rattle.shard_terms.specs.ShardList.{Cut, ShardList, floor_of, next_of, oldest_of, message_at, first_message}
-use Rattle.shard_terms.specs.Storing.{Store, act, acts, act_if, becomes_awaited, placed}
-use Rattle.shard_terms.specs.Capacity.{fits, sealed_at, without_oldest}
+use Rattle.topic_model.specs.StoredMessage.{StoredMessage}
+use Rattle.shard_model.specs.ShardList.{Cut, ShardList, floor_of, next_of, oldest_of, message_at, first_message}
+use Rattle.shard_model.specs.Storing.{Store, act, acts, act_if, becomes_awaited, placed}
+use Rattle.shard_model.specs.Capacity.{fits, sealed_at, without_oldest}
 use Rattle.shard_index.specs.declared.op.IndexOp.{IndexOp}
 use Rattle.shard_index.specs.declared.op.IndexOp.TheVariants.{Add, Release, Forget, Rotate, Drop}
 use Rattle.shard_index.specs.KeptIndex.{KeptIndex, cut_of, stored_of, list_of, kept_at}

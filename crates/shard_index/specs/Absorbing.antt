@@ -3,11 +3,11 @@ use Rattle.std.specs.Prelude.{ℕ, ◌≡◌, ◌+◌, ◌-◌, ◌^◌, ◌==�
 use Rattle.std.specs.List.{list_all, list_any}
 use Rattle.topic_name.specs.declared.descriptor.Descriptor.{Descriptor}
 use Rattle.topic_name.specs.KeptMessage.{KeptMessage}
-use Rattle.topic_terms.specs.Profile.{Profile, whole, unlearned}
-use Rattle.topic_terms.specs.StoredMessage.{StoredMessage}
-use Rattle.shard_terms.specs.ShardList.{Cut, Awaited, ShardList, newest, next_of, floor_of, oldest_of}
-use Rattle.shard_terms.specs.Storing.{Store, Release as ToRelease, Forget as ToForget, acts, act, act_if, becomes_awaited, is_of, is_awaited_as}
-use Rattle.shard_terms.specs.Capacity.{fits, sealed_at, dropped}
+use Rattle.topic_model.specs.Profile.{Profile, whole, unlearned}
+use Rattle.topic_model.specs.StoredMessage.{StoredMessage}
+use Rattle.shard_model.specs.ShardList.{Cut, Awaited, ShardList, newest, next_of, floor_of, oldest_of}
+use Rattle.shard_model.specs.Storing.{Store, Release as ToRelease, Forget as ToForget, acts, act, act_if, becomes_awaited, is_of, is_awaited_as}
+use Rattle.shard_model.specs.Capacity.{fits, sealed_at, dropped}
 use Rattle.shard_index.specs.declared.op.IndexOp.{IndexOp}
 use Rattle.shard_index.specs.declared.op.IndexOp.TheVariants.{Add, Release, Forget, Rotate, Drop}
 use Rattle.shard_index.specs.declared.op.Publisher.{Publisher}

@@ -2,8 +2,8 @@
 use Rattle.std.specs.Prelude.{ℕ, ◌≡◌, ◌-◌, ◌^◌, List, [], ◌∷◌, map, codes, Some, None, refl}
 use Rattle.topic_name.specs.declared.descriptor.Descriptor.{Descriptor}
 use Rattle.topic_name.specs.KeptMessage.{KeptMessage}
-use Rattle.shard_terms.specs.ShardList.{Awaited, floor_of}
-use Rattle.shard_terms.specs.Examples.{said}
+use Rattle.shard_model.specs.ShardList.{Awaited, floor_of}
+use Rattle.shard_model.specs.Examples.{said}
 use Rattle.shard_index.specs.declared.op.IndexOp.TheVariants.{Add, Release, Forget, Rotate, Drop}
 use Rattle.shard_index.specs.KeptIndex.{KeptIndex, kept_at, list_of}
 use Rattle.shard_index.specs.Absorbing.{kept_after_all}

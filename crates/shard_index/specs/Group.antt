@@ -1,11 +1,11 @@
 -- The operations of an index for a group that is stored at a moment.
 use Rattle.std.specs.Prelude.{ℕ, ◌+◌, ◌<◌, ◌≤◌, ◌^◌, Bool, true, false, List, [], ◌∷◌, length, None}
 use Rattle.std.specs.List.{sum_by}
-use Rattle.topic_terms.specs.Profile.{whole}
-use Rattle.topic_terms.specs.StoredMessage.{StoredMessage}
-use Rattle.shard_terms.specs.ShardList.{ShardList, newest, newest_messages, next_of}
-use Rattle.shard_terms.specs.Storing.{Op, Store, Release as ToRelease, Forget as ToForget, acts, act_if, placed}
-use Rattle.shard_terms.specs.Capacity.{store_size}
+use Rattle.topic_model.specs.Profile.{whole}
+use Rattle.topic_model.specs.StoredMessage.{StoredMessage}
+use Rattle.shard_model.specs.ShardList.{ShardList, newest, newest_messages, next_of}
+use Rattle.shard_model.specs.Storing.{Op, Store, Release as ToRelease, Forget as ToForget, acts, act_if, placed}
+use Rattle.shard_model.specs.Capacity.{store_size}
 use Rattle.shard_index.specs.declared.op.IndexOp.{IndexOp}
 use Rattle.shard_index.specs.declared.op.IndexOp.TheVariants.{Add, Release, Forget}
 use Rattle.shard_index.specs.Sound.{newest_bytes}

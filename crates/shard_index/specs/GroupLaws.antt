@@ -4,13 +4,13 @@ use Rattle.std.specs.List.{list_any, sum_by}
 use Rattle.std.specs.Cmp.Derive.{both_true}
 use Rattle.std.proofs.lemmas.List.{length-append}
 use Rattle.std.proofs.lemmas.List.Sums.{sum_by-append}
-use Rattle.topic_terms.specs.Profile.{whole}
-use Rattle.topic_terms.specs.StoredMessage.{StoredMessage}
-use Rattle.shard_terms.specs.ShardList.{Awaited, ShardList, newest, newest_messages, next_of}
-use Rattle.shard_terms.specs.Storing.{Op, Store, Release, Forget, act, act_if, acts, becomes_awaited, is_awaited_as, is_of, keep_if, kept_ops, placed, store, stores_of}
-use Rattle.shard_terms.specs.Capacity.{store_size}
-use Rattle.shard_terms.specs.Lists.{IsList}
-use Rattle.shard_terms.specs.ListLaws.{store_in_order}
+use Rattle.topic_model.specs.Profile.{whole}
+use Rattle.topic_model.specs.StoredMessage.{StoredMessage}
+use Rattle.shard_model.specs.ShardList.{Awaited, ShardList, newest, newest_messages, next_of}
+use Rattle.shard_model.specs.Storing.{Op, Store, Release, Forget, act, act_if, acts, becomes_awaited, is_awaited_as, is_of, keep_if, kept_ops, placed, store, stores_of}
+use Rattle.shard_model.specs.Capacity.{store_size}
+use Rattle.shard_model.specs.Lists.{IsList}
+use Rattle.shard_model.specs.laws.ListLaws.{store_in_order}
 use Rattle.shard_index.specs.Sound.{newest_bytes}
 use Rattle.shard_index.specs.SoundLaws.{bytes_more, fits_means, newest_more}
 use Rattle.shard_index.specs.Absorbing.{absorbed_all, may_add}

@@ -3,13 +3,13 @@ use Rattle.std.proofs.Common.{◌≡◌, ℕ, ◌+◌, Bool, true, false, ◌&&�
 use Rattle.std.proofs.lemmas.Bool.{and_parts}
 use Rattle.std.proofs.lemmas.List.{append-nil}
 use Rattle.topic_name.specs.KeptMessage.{KeptMessage}
-use Rattle.shard_terms.specs.ShardList.{Cut, Awaited, ShardList, newest, next_of}
-use Rattle.shard_terms.specs.Storing.{Store, act_if, acts}
-use Rattle.shard_terms.specs.Growing.{HasGrown}
-use Rattle.shard_terms.specs.Lists.{IsList}
-use Rattle.shard_terms.specs.ListLaws.{adding_grows, grown_then, store_in_order, storing_grows}
-use Rattle.shard_terms.specs.MoveLaws.{grown_itself}
-use Rattle.shard_terms.specs.GenerationLaws.{dropped_grows, dropped_in_order, rotated_grows, rotated_in_order}
+use Rattle.shard_model.specs.ShardList.{Cut, Awaited, ShardList, newest, next_of}
+use Rattle.shard_model.specs.Storing.{Store, act_if, acts}
+use Rattle.shard_model.specs.Growing.{HasGrown}
+use Rattle.shard_model.specs.Lists.{IsList}
+use Rattle.shard_model.specs.laws.ListLaws.{adding_grows, grown_then, store_in_order, storing_grows}
+use Rattle.shard_model.specs.laws.MoveLaws.{grown_itself}
+use Rattle.shard_model.specs.laws.GenerationLaws.{dropped_grows, dropped_in_order, rotated_grows, rotated_in_order}
 use Rattle.shard_index.specs.declared.op.IndexOp.{IndexOp}
 use Rattle.shard_index.specs.declared.op.IndexOp.TheVariants.{Add, Release, Forget, Rotate, Drop}
 use Rattle.shard_index.specs.KeptIndex.{cut_of}

@@ -2,8 +2,8 @@
 use Rattle.std.specs.Prelude.{ℕ, ◌-◌, nat_lt, if◌then◌else◌, List, map, slice_get, Option, None}
 use Rattle.topic_name.specs.declared.descriptor.Descriptor.{Descriptor}
 use Rattle.topic_name.specs.KeptMessage.{KeptMessage}
-use Rattle.topic_terms.specs.StoredMessage.{StoredMessage}
-use Rattle.shard_terms.specs.ShardList.{Cut, Awaited, ShardList, floor_of}
+use Rattle.topic_model.specs.StoredMessage.{StoredMessage}
+use Rattle.shard_model.specs.ShardList.{Cut, Awaited, ShardList, floor_of}
 
 -- the generations, oldest first; the messages, whose offsets are consecutive; and what is awaited, in the order in which it became so
 pub record KeptIndex : Type 0 where

@@ -1,10 +1,10 @@
 -- What holds of every index.
 use Rattle.std.specs.Prelude.{◌≡◌, ℕ, ◌+◌, ◌<◌, ◌^◌}
 use Rattle.std.specs.List.{sum_by}
-use Rattle.topic_terms.specs.Profile.{whole}
-use Rattle.shard_terms.specs.ShardList.{ShardList, next_of, newest_messages}
-use Rattle.shard_terms.specs.Lists.{IsList}
-use Rattle.shard_terms.specs.Capacity.{store_size}
+use Rattle.topic_model.specs.Profile.{whole}
+use Rattle.shard_model.specs.ShardList.{ShardList, next_of, newest_messages}
+use Rattle.shard_model.specs.Lists.{IsList}
+use Rattle.shard_model.specs.Capacity.{store_size}
 
 -- the bytes that the messages of the newest generation take in groups
 abbrev pub newest_bytes : ShardList → ℕ

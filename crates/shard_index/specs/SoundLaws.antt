@@ -7,16 +7,16 @@ use Rattle.std.proofs.lemmas.Bool.{and_parts}
 use Rattle.std.proofs.lemmas.Bool.Decides.{nat_tests}
 use Rattle.std.proofs.lemmas.List.{length-append, length-drop, drop-append-le, drop-drop}
 use Rattle.std.proofs.lemmas.List.Sums.{sum_by-append}
-use Rattle.topic_terms.specs.StoredMessage.{StoredMessage}
-use Rattle.topic_terms.specs.Profile.{Config, whole}
-use Rattle.shard_terms.specs.ShardList.{Cut, Awaited, new_cut, ShardList, newest, newest_of, newest_messages, floor_of, next_of, oldest_of}
-use Rattle.shard_terms.specs.Storing.{Store, act, act_if, acts, becomes_awaited, placed}
-use Rattle.shard_terms.specs.Capacity.{dropped, fits, learns_few_or_within, rotated, sealed_at, store_size}
-use Rattle.shard_terms.specs.CapacityLaws.{few_or_within}
-use Rattle.shard_terms.specs.Lists.{IsRow, IsList}
-use Rattle.shard_terms.specs.ListLaws.{store_in_order, row_first}
-use Rattle.shard_terms.specs.OrderLaws.{firsts_in_order, newest_in_order}
-use Rattle.shard_terms.specs.GenerationLaws.{rotated_in_order, dropped_in_order}
+use Rattle.topic_model.specs.StoredMessage.{StoredMessage}
+use Rattle.topic_model.specs.Profile.{Config, whole}
+use Rattle.shard_model.specs.ShardList.{Cut, Awaited, new_cut, ShardList, newest, newest_of, newest_messages, floor_of, next_of, oldest_of}
+use Rattle.shard_model.specs.Storing.{Store, act, act_if, acts, becomes_awaited, placed}
+use Rattle.shard_model.specs.Capacity.{dropped, fits, learns_few_or_within, rotated, sealed_at, store_size}
+use Rattle.shard_model.specs.laws.CapacityLaws.{few_or_within}
+use Rattle.shard_model.specs.Lists.{IsRow, IsList}
+use Rattle.shard_model.specs.laws.ListLaws.{store_in_order, row_first}
+use Rattle.shard_model.specs.laws.OrderLaws.{firsts_in_order, newest_in_order}
+use Rattle.shard_model.specs.laws.GenerationLaws.{rotated_in_order, dropped_in_order}
 use Rattle.shard_index.specs.Sound.{IsSound, newest_bytes}
 use Rattle.shard_index.specs.Absorbing.{begun, has_place, limits, may_add, may_begin}
 

@@ -7,8 +7,8 @@ use Rattle.std.specs.Hash as fed
 use Rattle.std.specs.Hash.{HashWrites}
 use Rattle.std.proofs.lemmas.Bool.{and_parts}
 use Rattle.std.proofs.lemmas.Slice.Eq.{bytes_eq-Decides}
-use Rattle.shard_terms.specs.ShardList.{Awaited}
-use Rattle.shard_terms.specs.Storing.{is_of, is_awaited_as}
+use Rattle.shard_model.specs.ShardList.{Awaited}
+use Rattle.shard_model.specs.Storing.{is_of, is_awaited_as}
 
 abbrev pub same_triple : Awaited → Awaited → Bool
 same_triple a b = is_awaited_as a.publisher a.incarnation a.id b

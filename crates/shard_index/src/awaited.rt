@@ -19,7 +19,7 @@ pub struct Awaited {
 }
 
 impl Model for Awaited {
-    ghost use Rattle.shard_terms.specs.ShardList.{Awaited as Triple};
+    ghost use Rattle.shard_model.specs.ShardList.{Awaited as Triple};
 
     ghost Value = { Triple };
 

@@ -1,7 +1,7 @@
 ghost use Rattle.std.specs.Prelude.{◌≡◌, [], ◌++◌, ◌∷◌, true, not, filter, length, slice_get, if◌then◌else◌, Ok, IfOk, OnErr};
 ghost use Rattle.std.specs.List.{list_any, IsDistinct};
 ghost use Rattle.std.specs.Option.{option_copied};
-ghost use Rattle.shard_terms.specs.Storing.{is_awaited_as, is_of};
+ghost use Rattle.shard_model.specs.Storing.{is_awaited_as, is_of};
 ghost use Rattle.shard_index.specs.Absorbing.{is_new};
 ghost use Rattle.shard_index.specs.Triples.{are_distinct, same_triple};
 
@@ -24,7 +24,7 @@ pub struct AwaitedList {
 
 impl Model for AwaitedList {
     ghost use Rattle.std.specs.Prelude.{List};
-    ghost use Rattle.shard_terms.specs.ShardList.{Awaited as Triple};
+    ghost use Rattle.shard_model.specs.ShardList.{Awaited as Triple};
     ghost use Rattle.shard_index.specs.Identifiers.{AreNoted};
 
     ghost Value = { List Triple };

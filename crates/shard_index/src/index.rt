@@ -1,10 +1,10 @@
 ghost use Rattle.std.specs.Prelude.{◌≡◌, ◌+◌, ◌<◌, ◌≤◌, ◌==◌, ◌-◌, ◌^◌, ◌&&◌, [], ◌∷◌, filter, take, length, slice_get, Some, None, IsTrue, IsOk, IsSome, ◌↔◌, IfOk, OnOk, OnErr, if◌then◌else◌};
 ghost use Rattle.std.specs.List.{IsDistinct};
 ghost use Rattle.std.specs.Option.{option_copied};
-ghost use Rattle.shard_terms.specs.ShardList.{floor_of, next_of, newest};
-ghost use Rattle.shard_terms.specs.Storing.{awaits, is_of};
-ghost use Rattle.shard_terms.specs.Lists.{IsList};
-ghost use Rattle.shard_terms.specs.Capacity.{store_size};
+ghost use Rattle.shard_model.specs.ShardList.{floor_of, next_of, newest};
+ghost use Rattle.shard_model.specs.Storing.{awaits, is_of};
+ghost use Rattle.shard_model.specs.Lists.{IsList};
+ghost use Rattle.shard_model.specs.Capacity.{store_size};
 ghost use Rattle.shard_index.specs.Triples.{same_triple};
 ghost use Rattle.shard_index.specs.KeptIndex.{cut_of, kept_at, list_of};
 ghost use Rattle.shard_index.specs.Sound.{newest_bytes};

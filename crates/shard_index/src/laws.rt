@@ -1,10 +1,10 @@
 // Laws of an index. Each is a call that does nothing.
 ghost use Rattle.std.specs.Prelude.{◌≡◌, ◌<◌, List, ℕ, length};
 ghost use Rattle.std.specs.Option.{option_map};
-ghost use Rattle.shard_terms.specs.ShardList.{ShardList, message_at};
-ghost use Rattle.shard_terms.specs.Lists.{IsList};
-ghost use Rattle.shard_terms.specs.Growing.{HasGrown};
-ghost use Rattle.shard_terms.specs.Storing.{Op, kept_ops, store, stores_of};
+ghost use Rattle.shard_model.specs.ShardList.{ShardList, message_at};
+ghost use Rattle.shard_model.specs.Lists.{IsList};
+ghost use Rattle.shard_model.specs.Growing.{HasGrown};
+ghost use Rattle.shard_model.specs.Storing.{Op, kept_ops, store, stores_of};
 ghost use Rattle.shard_index.specs.Group.{HasRoom, ops_for};
 ghost use Rattle.shard_index.specs.declared.op.IndexOp.{IndexOp};
 ghost use Rattle.shard_index.specs.KeptIndex.{KeptIndex, kept_at, list_of, stored_of};

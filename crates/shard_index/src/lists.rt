@@ -1,8 +1,8 @@
 // The lists of an index, each by itself.
 ghost use Rattle.std.specs.Prelude.{◌≡◌, ◌+◌, ◌<◌, ◌==◌, ◌&&◌, ◌++◌, ◌∷◌, [], not, drop, filter, map, length, vec_len, vec_capacity, if◌then◌else◌, IfOk, OnOk, OnErr};
 ghost use Rattle.std.specs.List.{list_any};
-ghost use Rattle.shard_terms.specs.ShardList.{newest_of, oldest_of};
-ghost use Rattle.shard_terms.specs.Storing.{becomes_awaited, is_awaited_as, is_of, triple_of};
+ghost use Rattle.shard_model.specs.ShardList.{newest_of, oldest_of};
+ghost use Rattle.shard_model.specs.Storing.{becomes_awaited, is_awaited_as, is_of, triple_of};
 ghost use Rattle.shard_index.specs.KeptIndex.{cut_of};
 ghost use Rattle.shard_index.specs.Absorbing.{awaited_after, awaited_after_all, is_new, sealed_last};
 

@@ -1,5 +1,5 @@
 ghost use Rattle.std.specs.Prelude.{◌≡◌};
-ghost use Rattle.shard_terms.specs.ShardList.{next_of};
+ghost use Rattle.shard_model.specs.ShardList.{next_of};
 ghost use Rattle.shard_index.specs.KeptIndex.{list_of};
 
 use crate::Index;

@@ -1,6 +1,6 @@
 // How many bytes a message takes in a group.
 ghost use Rattle.std.specs.Prelude.{◌≡◌, ◌-◌, nat_le, if◌then◌else◌, Some, None};
-ghost use Rattle.shard_terms.specs.Capacity.{store_size, expiry_size};
+ghost use Rattle.shard_model.specs.Capacity.{store_size, expiry_size};
 
 use topic_name::Message;
 

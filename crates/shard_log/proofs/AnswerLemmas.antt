@@ -3,8 +3,8 @@ use Rattle.std.proofs.Common.{◌≡◌, ◌⊎◌, inl, inr, ℕ, Bool, true, f
 use Rattle.outside.specs.DiskModel.{DiskState}
 use Rattle.outside.specs.Results.{on_ok_then}
 use Rattle.gated_log.specs.Closing.{is_closed_at}
-use Rattle.shard_terms.specs.ShardList.{ShardList, next_of}
-use Rattle.shard_terms.specs.Storing.{store}
+use Rattle.shard_model.specs.ShardList.{ShardList, next_of}
+use Rattle.shard_model.specs.Storing.{store}
 use Rattle.shard_index.specs.declared.refused.AppendRefused.{AppendRefused}
 use Rattle.shard_index.specs.declared.refused.AppendRefused.TheVariants.{AwaitFull, Fault, Full, Memory}
 use Rattle.shard_index.specs.KeptIndex.{ToldReceipt, list_of}

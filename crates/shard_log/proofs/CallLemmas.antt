@@ -1,8 +1,8 @@
 -- Each call is one of a run of calls.
 use Rattle.std.proofs.Common.{◌≡◌, ◌⊎◌, inl, inr, ℕ, Result, Ok, Err, IsTrue, List, refl, sym, ap, ◌∙◌}
 use Rattle.outside.specs.DiskModel.{DiskState}
-use Rattle.shard_terms.specs.ShardList.{ShardList}
-use Rattle.shard_terms.specs.Storing.{store}
+use Rattle.shard_model.specs.ShardList.{ShardList}
+use Rattle.shard_model.specs.Storing.{store}
 use Rattle.shard_index.specs.Absorbing.{absorbed_all}
 use Rattle.shard_index.specs.KeptIndex.{ToldReceipt}
 use Rattle.shard_index.specs.declared.refused.AppendRefused.{AppendRefused}

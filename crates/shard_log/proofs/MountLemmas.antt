@@ -15,7 +15,7 @@ use Rattle.pair_log.specs.declared.side.Side.{Side}
 use Rattle.pair_log.specs.Mounted.{IsMountTorn}
 use Rattle.pair_log.specs.Sides.{number_of}
 use Rattle.topic_name.specs.declared.mounting.MountRefused.TheVariants.{Memory}
-use Rattle.shard_terms.specs.ShardList.{ShardList}
+use Rattle.shard_model.specs.ShardList.{ShardList}
 use Rattle.shard_index.specs.KeptIndex.{KeptIndex, list_of}
 use Rattle.shard_fold.specs.declared.asked.Asked.{Asked}
 use Rattle.shard_fold.specs.declared.limits.TheConstants.{MOST_SLOT}

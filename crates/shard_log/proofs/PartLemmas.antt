@@ -7,7 +7,7 @@ use Rattle.outside.specs.Along.{Keeps, keeps_and, keeps_at_first, keeps_weaker}
 use Rattle.outside.specs.DiskModel.{DiskState}
 use Rattle.gated_log.specs.declared.refused.LogRefused.{LogRefused}
 use Rattle.gated_log.specs.declared.refused.LogRefused.TheVariants.{Fault as Failed}
-use Rattle.shard_terms.specs.ShardList.{ShardList}
+use Rattle.shard_model.specs.ShardList.{ShardList}
 use Rattle.shard_index.specs.declared.refused.AppendRefused.{AppendRefused}
 use Rattle.shard_index.specs.declared.refused.AppendRefused.TheVariants.{Fault}
 use Rattle.shard_fold.specs.declared.asked.Asked.{Asked}

@@ -10,7 +10,7 @@ use Rattle.gated_log.specs.declared.settled.Settled.TheVariants.{In, Out}
 use Rattle.gated_log.specs.declared.refused.LogRefused.{LogRefused}
 use Rattle.gated_log.specs.declared.refused.LogRefused.TheVariants.{Fault as Failed}
 use Rattle.gated_log.specs.Closing.{is_closed_at}
-use Rattle.shard_terms.specs.ShardList.{ShardList}
+use Rattle.shard_model.specs.ShardList.{ShardList}
 use Rattle.shard_index.specs.declared.op.IndexOp.{IndexOp}
 use Rattle.shard_index.specs.declared.refused.AppendRefused.TheVariants.{Fault}
 use Rattle.shard_index.specs.KeptIndex.{KeptIndex, list_of}

@@ -2,11 +2,11 @@
 use Rattle.std.proofs.Common.{◌≡◌, ◌⊎◌, inl, inr, ℕ, ◌+◌, ◌≤◌, Bool, true, false, if◌then◌else◌, IsErrOf, Result, Ok, Err, OnOk, OnErr, List, [], ◌∷◌, length, refl, sym, ap, subst, ◌∙◌, Option, Some, None}
 use Rattle.outside.specs.DiskModel.{DiskState}
 use Rattle.outside.specs.Results.{on_ok_then}
-use Rattle.topic_terms.specs.Profile.{whole}
-use Rattle.shard_terms.specs.ShardList.{ShardList}
-use Rattle.shard_terms.specs.Storing.{Op as PlainOp, kept_ops, store}
-use Rattle.shard_terms.specs.Capacity.{awaits_too_many}
-use Rattle.shard_terms.specs.Lists.{IsList}
+use Rattle.topic_model.specs.Profile.{whole}
+use Rattle.shard_model.specs.ShardList.{ShardList}
+use Rattle.shard_model.specs.Storing.{Op as PlainOp, kept_ops, store}
+use Rattle.shard_model.specs.Capacity.{awaits_too_many}
+use Rattle.shard_model.specs.Lists.{IsList}
 use Rattle.shard_index.specs.declared.op.IndexOp.{IndexOp}
 use Rattle.shard_index.specs.declared.refused.AppendRefused.{AppendRefused}
 use Rattle.shard_index.specs.declared.refused.AppendRefused.TheVariants.{AwaitFull, Fault, Full, Memory}

@@ -1,8 +1,8 @@
 -- What an append and a tick leave.
 use Rattle.std.specs.Prelude.{ℕ, ◌≡◌, ◌⊎◌, Bool, true, false, List, [], Result, Err, IfOk, OnOk, OnErr, None}
 use Rattle.outside.specs.DiskModel.{DiskState, IsArmed}
-use Rattle.shard_terms.specs.ShardList.{ShardList, next_of}
-use Rattle.shard_terms.specs.Storing.{store}
+use Rattle.shard_model.specs.ShardList.{ShardList, next_of}
+use Rattle.shard_model.specs.Storing.{store}
 use Rattle.shard_index.specs.declared.refused.AppendRefused.{AppendRefused}
 use Rattle.shard_index.specs.declared.refused.AppendRefused.TheVariants.{AwaitFull, Fault, Full, Memory}
 use Rattle.shard_index.specs.KeptIndex.{ToldReceipt}

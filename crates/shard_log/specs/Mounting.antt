@@ -9,7 +9,7 @@ use Rattle.pair_log.specs.Sides.{number_of}
 use Rattle.topic_name.specs.declared.config.Config.{Config}
 use Rattle.topic_name.specs.declared.mounting.MountRefused.{MountRefused}
 use Rattle.topic_name.specs.declared.mounting.MountRefused.TheVariants.{Fault, Damaged, Differs, Behind, Memory}
-use Rattle.shard_terms.specs.ShardList.{ShardList}
+use Rattle.shard_model.specs.ShardList.{ShardList}
 use Rattle.shard_fold.specs.declared.asked.Asked.{Asked}
 use Rattle.shard_fold.specs.declared.unread.Where.{Where}
 use Rattle.shard_fold.specs.Fold.{Folded, Holds, IsDamaged, HasAnother, first_manifest}

@@ -1,7 +1,7 @@
 -- What each part of a call keeps, and which disk is to blame for its answer.
 use Rattle.std.specs.Prelude.{ℕ, ◌≡◌, ◌⊎◌, ◌+◌, ◌≤◌, IsErrOf, Result, List, slice_set}
 use Rattle.outside.specs.DiskModel.{DiskState}
-use Rattle.shard_terms.specs.ShardList.{ShardList}
+use Rattle.shard_model.specs.ShardList.{ShardList}
 use Rattle.shard_index.specs.declared.refused.AppendRefused.{AppendRefused}
 use Rattle.shard_index.specs.declared.refused.AppendRefused.TheVariants.{Fault}
 use Rattle.shard_fold.specs.declared.asked.Asked.{Asked}

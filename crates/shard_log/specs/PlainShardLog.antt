@@ -3,7 +3,7 @@ use Rattle.std.specs.Prelude.{ℕ, ◌≡◌, ◌+◌, ◌<◌, ◌≤◌, Bool,
 use Rattle.outside.specs.DiskModel.{DiskState}
 use Rattle.gated_log.specs.Closing.{is_closed_at}
 use Rattle.gated_log.specs.PlainLog.{AtRest, InDoubt, Lost, Standing}
-use Rattle.shard_terms.specs.ShardList.{ShardList}
+use Rattle.shard_model.specs.ShardList.{ShardList}
 use Rattle.shard_index.specs.declared.op.IndexOp.{IndexOp}
 use Rattle.shard_index.specs.KeptIndex.{KeptIndex, list_of}
 use Rattle.shard_index.specs.Absorbing.{absorbed_all, all_stand, are_of_group}

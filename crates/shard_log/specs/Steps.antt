@@ -1,7 +1,7 @@
 -- What the steps of an append do.
 use Rattle.std.specs.Prelude.{ℕ, ◌≡◌, ◌⊎◌, ◌+◌, ◌<◌, ◌≤◌, true, List, [], length, Result, OnOk, OnErr, IsErrOf, Some, None}
 use Rattle.outside.specs.DiskModel.{DiskState}
-use Rattle.shard_terms.specs.ShardList.{ShardList}
+use Rattle.shard_model.specs.ShardList.{ShardList}
 use Rattle.shard_index.specs.declared.op.IndexOp.{IndexOp}
 use Rattle.shard_index.specs.declared.refused.AppendRefused.{AppendRefused}
 use Rattle.shard_index.specs.declared.refused.AppendRefused.TheVariants.{Fault, Memory}

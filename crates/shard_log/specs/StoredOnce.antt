@@ -1,10 +1,10 @@
 -- How often a message was stored whose identifier is awaited.
 use Rattle.std.specs.Prelude.{ℕ, ◌≡◌, ◌⊎◌, ◌+◌, ◌&&◌, Bool, true, false, if◌then◌else◌, List, [], ◌∷◌, None, refl}
 use Rattle.std.proofs.Common.{inl, inr, ap, arith}
-use Rattle.shard_terms.specs.ShardList.{Awaited, ShardList, next_of, opening_list}
-use Rattle.shard_terms.specs.Storing.{Op, Store, Release, Forget, act_if, acts, awaits, is_awaited_as, is_message_of, is_of, store}
-use Rattle.topic_terms.specs.Profile.{default_config}
-use Rattle.topic_terms.specs.StoredMessage.{StoredMessage}
+use Rattle.shard_model.specs.ShardList.{Awaited, ShardList, next_of, opening_list}
+use Rattle.shard_model.specs.Storing.{Op, Store, Release, Forget, act_if, acts, awaits, is_awaited_as, is_message_of, is_of, store}
+use Rattle.topic_model.specs.Profile.{default_config}
+use Rattle.topic_model.specs.StoredMessage.{StoredMessage}
 
 -- What comes of a call, or of a crash inside it, and of a mount: a group was stored at a moment, or the list was left.
 pub data Event : Type 0 where

@@ -1,7 +1,7 @@
 // Laws of what is stored. Each is a call that does nothing.
 ghost use Rattle.std.specs.Prelude.{◌≡◌, ◌<◌, ℕ, IsTrue, List, Result};
-ghost use Rattle.shard_terms.specs.ShardList.{Awaited, ShardList};
-ghost use Rattle.shard_terms.specs.Storing.{store};
+ghost use Rattle.shard_model.specs.ShardList.{Awaited, ShardList};
+ghost use Rattle.shard_model.specs.Storing.{store};
 ghost use Rattle.shard_index.specs.declared.refused.AppendRefused.{AppendRefused};
 ghost use Rattle.shard_index.specs.KeptIndex.{ToldReceipt};
 ghost use Rattle.record_codec.specs.declared.group.Op.{Op};

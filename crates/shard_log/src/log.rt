@@ -1,9 +1,9 @@
 // The list of a shard on its disks.
 ghost use Rattle.std.specs.Prelude.{◌≡◌, ◌<◌, ◌≤◌, length, true, is_some, slice_get, None, Some, IsTrue, IfOk, IfErr};
-ghost use Rattle.shard_terms.specs.ShardList.{next_of};
-ghost use Rattle.shard_terms.specs.Storing.{store};
+ghost use Rattle.shard_model.specs.ShardList.{next_of};
+ghost use Rattle.shard_model.specs.Storing.{store};
 ghost use Rattle.topic_name.specs.PlainConfig.{plain_config};
-ghost use Rattle.topic_terms.specs.Limits.{is_within_limits};
+ghost use Rattle.topic_model.specs.Limits.{is_within_limits};
 ghost use Rattle.record_codec.specs.Records.{plain_ops};
 ghost use Rattle.shard_index.specs.Absorbing.{absorbed_all};
 ghost use Rattle.group_plan.specs.Asking.{may_ask};

@@ -7,10 +7,10 @@ use Rattle.std.proofs.lemmas.Bool.Decides.{nat_tests}
 use Rattle.std.proofs.lemmas.List.{append-nil, map-append}
 use Rattle.outside.specs.DiskModel.{DiskState}
 use Rattle.gated_log.specs.PlainLog.{end_of}
-use Rattle.topic_terms.specs.Limits.{lies_between}
+use Rattle.topic_model.specs.Limits.{lies_between}
 use Rattle.topic_name.specs.declared.descriptor.Descriptor.{Descriptor}
 use Rattle.topic_name.specs.declared.mounting.What.{What}
-use Rattle.shard_terms.specs.ShardList.{Cut, ShardList, newest, newest_of}
+use Rattle.shard_model.specs.ShardList.{Cut, ShardList, newest, newest_of}
 use Rattle.shard_index.specs.Absorbing.{sealed_last}
 use Rattle.shard_index.specs.KeptIndex.{KeptIndex, cut_of, list_of}
 use Rattle.shard_fold.specs.declared.unread.Where.{Where}

@@ -3,7 +3,7 @@ use Rattle.std.proofs.Common.{◌≡◌, ℕ, suc, ◌+◌, ◌<◌, ◌≤◌, 
 use Rattle.std.proofs.Math.ListN.{drop_of_length-le}
 use Rattle.outside.specs.DiskModel.{DiskState}
 use Rattle.gated_log.specs.PlainLog.{end_of}
-use Rattle.shard_terms.specs.ShardList.{ShardList}
+use Rattle.shard_model.specs.ShardList.{ShardList}
 use Rattle.shard_index.specs.KeptIndex.{KeptIndex, list_of}
 use Rattle.record_codec.specs.Records.{KeptOpening}
 use Rattle.record_codec.specs.Reading.{group_in, opening_in}

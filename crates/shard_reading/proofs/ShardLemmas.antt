@@ -7,7 +7,7 @@ use Rattle.std.proofs.lemmas.List.{length-map}
 use Rattle.outside.specs.Along.{keeps_and, keeps_weaker}
 use Rattle.outside.specs.DiskModel.{DiskState}
 use Rattle.topic_name.specs.declared.descriptor.Descriptor.{Descriptor}
-use Rattle.shard_terms.specs.ShardList.{ShardList}
+use Rattle.shard_model.specs.ShardList.{ShardList}
 use Rattle.shard_index.specs.KeptIndex.{KeptIndex, list_of}
 use Rattle.shard_fold.specs.declared.asked.Asked.{Asked}
 use Rattle.shard_fold.specs.Fold.{Folded, Holds, all_told, and_then, are_sound_cuts, first_opening, folded, generation_told, is_new, later_all_told, opened, opened_behind, or_opening, records_of}

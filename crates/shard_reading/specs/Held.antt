@@ -3,7 +3,7 @@ use Rattle.std.specs.Prelude.{ℕ, ◌≡◌, ◌⊎◌, ◌+◌, Bool, true, fa
 use Rattle.outside.specs.DiskModel.{Torn}
 use Rattle.gated_log.specs.Calls.{with_record}
 use Rattle.pair_log.specs.Mounted.{or_first}
-use Rattle.shard_terms.specs.ShardList.{ShardList}
+use Rattle.shard_model.specs.ShardList.{ShardList}
 use Rattle.topic_name.specs.declared.descriptor.Descriptor.{Descriptor}
 use Rattle.shard_fold.specs.declared.asked.Asked.{Asked}
 use Rattle.shard_fold.specs.declared.unread.Where.{Where}

@@ -2,7 +2,7 @@
 ghost use Rattle.std.specs.Prelude.{◌≡◌, ◌+◌, ◌<◌, ◌≤◌, ◌++◌, ◌∷◌, [], Some, None, IfOk, IsTrue, OnOk, drop, length, slice_index_or};
 ghost use Rattle.std.specs.List.{list_all};
 ghost use Rattle.gated_log.specs.PlainLog.{end_of};
-ghost use Rattle.shard_terms.specs.ShardList.{newest};
+ghost use Rattle.shard_model.specs.ShardList.{newest};
 ghost use Rattle.shard_index.specs.Absorbing.{sealed_last};
 ghost use Rattle.shard_index.specs.KeptIndex.{list_of};
 ghost use Rattle.record_codec.specs.Reading.{opening_in};

@@ -3,7 +3,7 @@ ghost use Rattle.std.specs.Prelude.{◌≡◌, ◌<◌, [], List, None, IfErr, I
 ghost use Rattle.pair_log.specs.Epochs.{snapshot_of};
 ghost use Rattle.pair_log.specs.PlainPair.{head_of};
 ghost use Rattle.record_codec.specs.Records.{KeptOpening};
-ghost use Rattle.shard_terms.specs.ShardList.{ShardList};
+ghost use Rattle.shard_model.specs.ShardList.{ShardList};
 ghost use Rattle.shard_fold.specs.Fold.{Folded, generation_told};
 ghost use Rattle.shard_disks.specs.Calls.{Told};
 ghost use Rattle.shard_disks.specs.PlainDisks.{outline};

@@ -1,6 +1,6 @@
 -- The message that the tests publish, as a group may ask for it.
 use Rattle.std.specs.Prelude.{◌≡◌, true, List, [], ◌∷◌, None, refl}
-use Rattle.topic_terms.specs.Profile.{Config}
+use Rattle.topic_model.specs.Profile.{Config}
 use Rattle.topic_name.specs.KeptMessage.{KeptMessage}
 use Rattle.record_codec.specs.declared.group.Op.{Op}
 use Rattle.record_codec.specs.declared.group.Op.TheVariants.{Store}

@@ -1,8 +1,8 @@
 -- What computes of views, and what is refused.
 use Rattle.std.specs.Prelude.{◌≡◌, ◌⊎◌, ◌-◌, ◌^◌, ◌<◌, ◌≤◌, true, false, [], ◌∷◌, Some, None, Err, Result, refl}
 use Rattle.std.proofs.Common.{arith, inl, inr}
-use Rattle.topic_terms.specs.StoredMessage.{StoredMessage}
-use Rattle.shard_terms.specs.ShardList.{Cut, ShardList}
+use Rattle.topic_model.specs.StoredMessage.{StoredMessage}
+use Rattle.shard_model.specs.ShardList.{Cut, ShardList}
 use Rattle.shard_index.specs.KeptIndex.{KeptIndex}
 use Rattle.shard_views.specs.declared.missed.Missed.{Missed}
 use Rattle.shard_views.specs.Views.{InView, IsLater, Left, ReadersState, Unviewed, Views, left_behind, standing_at, with_view}

@@ -1,10 +1,10 @@
 -- Laws of what a reader sees.
 use Rattle.std.specs.Prelude.{ℕ, zero, suc, ◌≡◌, ◌<◌, ◌≤◌, Bool, List, [], ◌∷◌, map, length, Some, slice_get, slice_set, Result, Ok, Err, refl}
 use Rattle.std.proofs.Common.{arith, inl, inr, sym, ap, subst, ◌∙◌}
-use Rattle.shard_terms.specs.ShardList.{ShardList, next_of}
-use Rattle.shard_terms.specs.Lists.{IsList}
-use Rattle.shard_terms.specs.Growing.{HasGrown}
-use Rattle.shard_terms.specs.ListLaws.{grown_then}
+use Rattle.shard_model.specs.ShardList.{ShardList, next_of}
+use Rattle.shard_model.specs.Lists.{IsList}
+use Rattle.shard_model.specs.Growing.{HasGrown}
+use Rattle.shard_model.specs.laws.ListLaws.{grown_then}
 use Rattle.shard_index.specs.KeptIndex.{ToldReceipt, list_of}
 use Rattle.shard_views.specs.declared.missed.Missed.{Missed}
 use Rattle.shard_views.specs.Views.{Goes, InView, IsLater, Learns, Left, ReadersState, ShardView, Unviewed, Views, ended, left_behind, seen_at, seen_in, standing_in}

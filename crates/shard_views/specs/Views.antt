@@ -1,9 +1,9 @@
 -- What a reader of the shards has seen of them, and what its calls do to that.
 use Rattle.std.specs.Prelude.{ℕ, ◌≡◌, ◌⊎◌, ◌<◌, ◌≤◌, Bool, true, false, List, [], map, length, slice_get, slice_set, Option, Some, None, Result, OnOk, OnErr}
 use Rattle.outside.specs.Cause.{HasCause}
-use Rattle.shard_terms.specs.ShardList.{ShardList}
-use Rattle.shard_terms.specs.Lists.{IsList}
-use Rattle.shard_terms.specs.Growing.{HasGrown}
+use Rattle.shard_model.specs.ShardList.{ShardList}
+use Rattle.shard_model.specs.Lists.{IsList}
+use Rattle.shard_model.specs.Growing.{HasGrown}
 use Rattle.shard_index.specs.KeptIndex.{KeptIndex, ToldReceipt, list_of}
 use Rattle.shard_views.specs.declared.missed.Missed.{Missed}
 

@@ -1,6 +1,6 @@
 // Laws of views. Each is a call that does nothing.
 ghost use Rattle.std.specs.Prelude.{◌≡◌, ◌<◌, ◌≤◌, ℕ, Some, Result, length};
-ghost use Rattle.shard_terms.specs.ShardList.{ShardList, next_of};
+ghost use Rattle.shard_model.specs.ShardList.{ShardList, next_of};
 ghost use Rattle.shard_index.specs.KeptIndex.{ToldReceipt};
 ghost use Rattle.shard_views.specs.declared.missed.Missed.{Missed};
 ghost use Rattle.shard_views.specs.Views.{Goes, IsLater, Learns, ReadersState, Standing, Views, left_behind, seen_at, standing_at, with_view};

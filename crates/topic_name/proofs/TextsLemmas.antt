@@ -5,11 +5,11 @@ use Rattle.std.specs.List.{list_any}
 use Rattle.std.specs.Str.{bytes_eq}
 use Rattle.std.proofs.Math.Dec.{leb-suc-suc}
 use Rattle.std.proofs.lemmas.Slice.Eq.{bytes_eq-Decides}
-use Rattle.topic_terms.specs.declared.refused.FilterRefused.{FilterRefused}
-use Rattle.topic_terms.specs.declared.refused.FilterRefused.TheVariants.{Empty, Zero, TooLong, TooManyLevels, BadPlus, BadHash, Memory}
-use Rattle.topic_terms.specs.Levels.{levels_of, text_of_levels}
-use Rattle.topic_terms.specs.LevelsLaws.{parts, length-pieces, text_of-levels_of}
-use Rattle.topic_terms.specs.Texts.{most_filter, has_many_levels, filter_refusal, is_empty, has, is_bad_plus, has_bad_hash}
+use Rattle.topic_model.specs.declared.refused.FilterRefused.{FilterRefused}
+use Rattle.topic_model.specs.declared.refused.FilterRefused.TheVariants.{Empty, Zero, TooLong, TooManyLevels, BadPlus, BadHash, Memory}
+use Rattle.topic_model.specs.Levels.{levels_of, text_of_levels}
+use Rattle.topic_model.specs.laws.LevelsLaws.{parts, length-pieces, text_of-levels_of}
+use Rattle.topic_model.specs.Texts.{most_filter, has_many_levels, filter_refusal, is_empty, has, is_bad_plus, has_bad_hash}
 
 -- texts are equal as the texts of their levels are
 pub same_texts : (xs ys : List ℕ) (same : Bool) → same ≡ bytes_eq xs ys → same ≡ bytes_eq (text_of_levels (levels_of xs)) (text_of_levels (levels_of ys))

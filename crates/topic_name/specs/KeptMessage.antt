@@ -1,6 +1,6 @@
 -- A message as it is kept: what was stored, and where its body lies if that is not in memory.
 use Rattle.std.specs.Prelude.{ℕ, Option}
-use Rattle.topic_terms.specs.StoredMessage.{StoredMessage}
+use Rattle.topic_model.specs.StoredMessage.{StoredMessage}
 
 -- a body on a disk: the slot disk, where in it the body begins, and how many bytes it has
 pub record ColdPlace : Type 0 where

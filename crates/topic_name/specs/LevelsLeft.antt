@@ -1,7 +1,7 @@
 -- What an iterator over levels has still to give.
 use Rattle.std.specs.Prelude.{ℕ, List, [], Option, Some, None}
 use Rattle.std.specs.Borrow.{Bor}
-use Rattle.topic_terms.specs.Levels.{levels_of}
+use Rattle.topic_model.specs.Levels.{levels_of}
 use Rattle.topic_name.specs.declared.levels.Levels.{Levels}
 
 -- the levels of a rest of a text, none where there is no rest

@@ -1,5 +1,5 @@
 ghost use Rattle.std.specs.Prelude.{◌≡◌};
-ghost use Rattle.topic_terms.specs.Limits.{lies_between, is_within_limits};
+ghost use Rattle.topic_model.specs.Limits.{lies_between, is_within_limits};
 ghost use Rattle.topic_name.specs.PlainConfig.{plain_config};
 
 /// The most shards of a broker.

@@ -1,14 +1,14 @@
 ghost use Rattle.std.specs.Prelude.{◌≡◌, ◌≢◌, ◌<◌, ◌≤◌, ◌↔◌, length, None, Some, IfOk, IfErr, OnOk, IsErrOf, IsTrue};
 ghost use Rattle.std.specs.Str.{bytes_eq};
-ghost use Rattle.topic_terms.specs.Levels.{levels_of, text_of_levels};
-ghost use Rattle.topic_terms.specs.Texts.{most_levels, filter_refusal};
+ghost use Rattle.topic_model.specs.Levels.{levels_of, text_of_levels};
+ghost use Rattle.topic_model.specs.Texts.{most_levels, filter_refusal};
 ghost use Rattle.topic_name.specs.LevelsLeft.{levels_left};
 
 use crate::texts::filter_refusal;
 use crate::{Levels, Name};
 use std::alloc::{AllocError, Global};
 use std::marker::Model;
-use topic_terms::FilterRefused;
+use topic_model::FilterRefused;
 
 /// A topic filter, seen as its levels: at least one, and at most `MOST_LEVELS` (MQTT 4.7).
 #[derive(Debug, Drop)]
@@ -18,8 +18,8 @@ pub struct Filter {
 
 impl Model for Filter {
     ghost use Rattle.std.specs.Prelude.{◌≡◌, List, ℕ, None};
-    ghost use Rattle.topic_terms.specs.Levels.{levels_of};
-    ghost use Rattle.topic_terms.specs.Texts.{filter_refusal};
+    ghost use Rattle.topic_model.specs.Levels.{levels_of};
+    ghost use Rattle.topic_model.specs.Texts.{filter_refusal};
 
     ghost Value = { List (List ℕ) };
 

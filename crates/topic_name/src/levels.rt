@@ -1,6 +1,6 @@
 ghost use Rattle.std.specs.Prelude.{◌≡◌, ◌∷◌};
-ghost use Rattle.topic_terms.specs.Levels.{levels_of};
-ghost use Rattle.topic_terms.specs.Matching.{is_last};
+ghost use Rattle.topic_model.specs.Levels.{levels_of};
+ghost use Rattle.topic_model.specs.Matching.{is_last};
 ghost use Rattle.topic_name.specs.LevelsLeft.{levels_left, levels_of_rest};
 
 /// The levels of a topic name or a filter, from the first on (MQTT 4.7.1.1). There is at least one, and each may be

@@ -7,7 +7,7 @@
 //!
 //! Contracts see each type as the model's plain value: a name and a blob as bytes, a topic name and a filter as their
 //! levels, a message as what was stored and where its body lies, a configuration as its numbers. Which texts are topic
-//! names and filters, what matches, where clients go and what the limits are stands in `topic_terms`: read its
+//! names and filters, what matches, where clients go and what the limits are stands in `topic_model`: read its
 //! `specs/Levels.antt`, `Matching.antt` and `Texts.antt` first, and then `specs/KeptMessage.antt` here.
 #![tactic(auto)]
 
@@ -43,4 +43,4 @@ pub use name::Name;
 pub use routing::{shard_of, worker_of};
 pub use texts::{MOST_FILTER, MOST_LEVELS};
 pub use topic::Topic;
-pub use topic_terms::{FilterRefused, TopicRefused};
+pub use topic_model::{FilterRefused, TopicRefused};

@@ -1,7 +1,7 @@
 // Whether a filter matches a topic name, level by level (MQTT 4.7).
 ghost use Rattle.std.specs.Prelude.{◌≡◌, ◌||◌};
 ghost use Rattle.std.specs.Str.{bytes_eq};
-ghost use Rattle.topic_terms.specs.Matching.{matches, levels_match, begins_wild, begins_dollar, is_plus, is_hash};
+ghost use Rattle.topic_model.specs.Matching.{matches, levels_match, begins_wild, begins_dollar, is_plus, is_hash};
 ghost use Rattle.topic_name.specs.LevelsLeft.{levels_left};
 
 use crate::{Filter, Levels, Topic};

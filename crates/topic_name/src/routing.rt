@@ -2,7 +2,7 @@
 ghost use Rattle.std.specs.Prelude.{◌≡◌, ◌<◌, ◌≤◌, take, drop};
 ghost use Rattle.std.specs.Int.{w64, from_be_bytes};
 ghost use Rattle.sha2.specs.Sha256.{sha256};
-ghost use Rattle.topic_terms.specs.Routing.{shard_of, worker_of};
+ghost use Rattle.topic_model.specs.Routing.{shard_of, worker_of};
 
 use crate::Name;
 use byteorder::{BigEndian, ByteOrder};

@@ -1,12 +1,12 @@
 // Which texts are topic names and filters, and why others are not (MQTT 4.7).
 ghost use Rattle.std.specs.Prelude.{◌≡◌, count_by};
 ghost use Rattle.std.specs.List.{list_any};
-ghost use Rattle.topic_terms.specs.LevelsLaws.{parts};
-ghost use Rattle.topic_terms.specs.Texts.{topic_refusal, filter_refusal, has, has_wildcard, has_many_levels, is_bad_plus, has_bad_hash};
+ghost use Rattle.topic_model.specs.laws.LevelsLaws.{parts};
+ghost use Rattle.topic_model.specs.Texts.{topic_refusal, filter_refusal, has, has_wildcard, has_many_levels, is_bad_plus, has_bad_hash};
 ghost use Rattle.topic_name.specs.LevelsLeft.{levels_left};
 
 use crate::Levels;
-use topic_terms::{FilterRefused, TopicRefused};
+use topic_model::{FilterRefused, TopicRefused};
 
 /// The most levels of a topic name or a filter.
 pub const MOST_LEVELS: usize = 128;

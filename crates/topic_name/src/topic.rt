@@ -1,13 +1,13 @@
 ghost use Rattle.std.specs.Prelude.{◌≡◌, ◌≢◌, ◌<◌, ◌≤◌, length, None, Some, IfOk, IfErr, OnOk, IsErrOf};
-ghost use Rattle.topic_terms.specs.Levels.{levels_of, text_of_levels};
-ghost use Rattle.topic_terms.specs.Texts.{most_levels, topic_refusal};
+ghost use Rattle.topic_model.specs.Levels.{levels_of, text_of_levels};
+ghost use Rattle.topic_model.specs.Texts.{most_levels, topic_refusal};
 ghost use Rattle.topic_name.specs.LevelsLeft.{levels_left};
 
 use crate::texts::topic_refusal;
 use crate::{Levels, Name};
 use std::alloc::{AllocError, Global};
 use std::marker::Model;
-use topic_terms::TopicRefused;
+use topic_model::TopicRefused;
 
 /// A topic name, seen as its levels: at least one, and at most `MOST_LEVELS` (MQTT 4.7).
 #[derive(Debug, Drop)]
@@ -17,8 +17,8 @@ pub struct Topic {
 
 impl Model for Topic {
     ghost use Rattle.std.specs.Prelude.{◌≡◌, List, ℕ, None};
-    ghost use Rattle.topic_terms.specs.Levels.{levels_of};
-    ghost use Rattle.topic_terms.specs.Texts.{topic_refusal};
+    ghost use Rattle.topic_model.specs.Levels.{levels_of};
+    ghost use Rattle.topic_model.specs.Texts.{topic_refusal};
 
     ghost Value = { List (List ℕ) };
 

@@ -1,13 +1,13 @@
 // What changes make of a session.
 ghost use Rattle.std.specs.Prelude.{◌≡◌, ◌++◌, ◌∷◌, [], IsTrue, IfOk, OnOk, OnErr, is_ok, if◌then◌else◌};
-ghost use Rattle.topic_terms.specs.Profile.{whole};
+ghost use Rattle.topic_model.specs.Profile.{whole};
 ghost use Rattle.session_state.specs.KeptActing.{kept_changed};
 ghost use Rattle.session_state.specs.KeptFits.{session_fits};
 
 use crate::keeping::{drop_unneeded, tidy};
 use crate::subs::{end_sub, new_sub, set_sweep, set_version};
 use crate::{Effect, Issued, Parted, Passed, Replaced, Session, Sub, Subscribed};
-use session_terms::Version;
+use session_model::Version;
 use std::alloc::AllocError;
 
 impl Session {

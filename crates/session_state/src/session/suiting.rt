@@ -1,7 +1,7 @@
 // Which changes fit a session.
 ghost use Rattle.std.specs.Prelude.{◌≡◌, ◌+◌, ◌==◌, ◌≤◌, ◌&&◌, IsTrue, find, is_some, slice_get, nat_lt, nat_le};
-ghost use Rattle.topic_terms.specs.Profile.{whole};
-ghost use Rattle.session_terms.specs.FitsSession.{greatest_of_four, is_between};
+ghost use Rattle.topic_model.specs.Profile.{whole};
+ghost use Rattle.session_model.specs.FitsSession.{greatest_of_four, is_between};
 ghost use Rattle.session_state.specs.KeptSub.{KeptSub};
 ghost use Rattle.session_state.specs.KeptActing.{kept_changed};
 ghost use Rattle.session_state.specs.KeptFits.{kept_suits, kept_within, session_fits, subscribes, replaces, issues, is_live, if_live, is_issuing, goes_on, passes};

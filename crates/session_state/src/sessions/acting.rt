@@ -3,8 +3,8 @@ ghost use Rattle.std.specs.Prelude.{◌≡◌, ◌==◌, ◌&&◌, ◌++◌, ◌
 ghost use Rattle.std.specs.List.{list_all};
 ghost use Rattle.std.specs.Str.{bytes_eq};
 ghost use Rattle.indexmap.specs.IndexMap.{IsUnique};
-ghost use Rattle.topic_terms.specs.Profile.{whole};
-ghost use Rattle.session_terms.specs.FitsSession.{greatest};
+ghost use Rattle.topic_model.specs.Profile.{whole};
+ghost use Rattle.session_model.specs.FitsSession.{greatest};
 ghost use Rattle.session_state.specs.KeptSession.{KeptSession, AreKeyed, sessions_in};
 ghost use Rattle.session_state.specs.KeptActing.{kept_changed, on_session, without_session};
 ghost use Rattle.session_state.specs.KeptFits.{held_fits, is_wide, is_window, wide_count};

@@ -1,5 +1,5 @@
 use Rattle.std.proofs.Common.{ap, arith}
-use Rattle.shard_terms.specs.ShardList.{Cut}
+use Rattle.shard_model.specs.ShardList.{Cut}
 use Rattle.shard_index.specs.KeptIndex.{list_of}
 use Rattle.shard_index.specs.SoundLaws.{newest_first, newest_long}
 use Rattle.group_plan.proofs.room.messages_left.Goals as goal

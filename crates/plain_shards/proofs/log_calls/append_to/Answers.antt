@@ -1,7 +1,7 @@
 use Rattle.std.proofs.Common.{IsTrue, length, sym, subst, refl}
 use Rattle.std.proofs.lemmas.Option.{slice_get_read}
 use Rattle.topic_name.specs.PlainConfig.{plain_config}
-use Rattle.shard_terms.specs.Lists.{IsList}
+use Rattle.shard_model.specs.Lists.{IsList}
 use Rattle.shard_index.specs.KeptIndex.{KeptIndex, list_of}
 use Rattle.shard_fold.specs.declared.asked.Asked.{Asked}
 use Rattle.group_plan.specs.Asking.{may_ask}

@@ -1,5 +1,5 @@
 use Rattle.std.proofs.Common.{subst}
-use Rattle.shard_terms.specs.Lists.{IsList}
+use Rattle.shard_model.specs.Lists.{IsList}
 use Rattle.shard_index.specs.KeptIndex.{KeptIndex, list_of}
 use Rattle.plain_shards.specs.Calls.{TicksLater}
 use Rattle.plain_shards.specs.KeptShards.{asked_of}

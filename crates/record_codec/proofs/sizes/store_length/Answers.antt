@@ -1,5 +1,5 @@
 use Rattle.std.proofs.Common.{rules, ◌≡◌, ◌-◌, ◌^◌, min}
-use Rattle.shard_terms.specs.Capacity.{store_size}
+use Rattle.shard_model.specs.Capacity.{store_size}
 use Rattle.record_codec.specs.CountLaws.{store_written}
 use Rattle.record_codec.proofs.sizes.store_length.Goals as goal
 

@@ -1,5 +1,5 @@
 use Rattle.std.proofs.Common.{◌+◌, ◌-◌, ◌++◌, sym, subst, arith}
-use Rattle.session_terms.specs.Acting.{numbers_from}
+use Rattle.session_model.specs.Acting.{numbers_from}
 use Rattle.seq_tracks.specs.InOrder.{tracks_of}
 use Rattle.seq_tracks.specs.Changed.{IsDoneUpTo}
 use Rattle.seq_tracks.proofs.TrackLemmas.{received_all, received_some, room_for_run}

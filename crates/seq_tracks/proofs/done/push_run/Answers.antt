@@ -1,6 +1,6 @@
 use Rattle.std.proofs.Common.{◌≡◌, ℕ, ◌+◌, ◌-◌, List, [], ◌∷◌, ◌++◌, length, ap, ◌∙◌, append_assoc, arith}
 use Rattle.std.proofs.lemmas.List.{length-append}
-use Rattle.session_terms.specs.Acting.{numbers_from}
+use Rattle.session_model.specs.Acting.{numbers_from}
 use Rattle.seq_tracks.specs.ListLaws.{length-from, from-push}
 use Rattle.seq_tracks.proofs.done.push_run.Goals as goal
 

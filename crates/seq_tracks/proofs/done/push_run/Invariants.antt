@@ -1,6 +1,6 @@
 use Rattle.std.proofs.Common.{◌≡◌, ◌+◌, ◌-◌, ◌++◌}
 use Rattle.std.specs.Prelude.{vec_capacity}
-use Rattle.session_terms.specs.Acting.{numbers_from}
+use Rattle.session_model.specs.Acting.{numbers_from}
 use Rattle.seq_tracks.proofs.done.push_run.Given as goal
 
 -- so many were put behind those that stood there, in the same room

@@ -1,5 +1,5 @@
 use Rattle.std.proofs.Common.{◌≡◌, drop}
-use Rattle.topic_terms.specs.Profile.{whole}
+use Rattle.topic_model.specs.Profile.{whole}
 use Rattle.session_state.specs.KeptActing.{kept_acted_all}
 use Rattle.session_state.specs.KeptFits.{kept_fit_all}
 use Rattle.session_journal.proofs.folding.act_all.Given as goal

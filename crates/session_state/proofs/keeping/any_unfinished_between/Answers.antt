@@ -1,6 +1,6 @@
 use Rattle.std.proofs.Common.{◌∙◌, sym, ap, ◌||◌, ◌-◌, ◌+◌}
 use Rattle.std.specs.List.{list_any}
-use Rattle.session_terms.specs.Acting.{numbers_from}
+use Rattle.session_model.specs.Acting.{numbers_from}
 use Rattle.seq_tracks.specs.PlainTracks.{is_unfinished}
 use Rattle.session_state.specs.RunLaws.{any_from}
 use Rattle.session_state.proofs.keeping.any_unfinished_between.Goals as goal

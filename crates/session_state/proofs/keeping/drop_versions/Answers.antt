@@ -1,6 +1,6 @@
 use Rattle.std.proofs.Common.{◌||◌, rules}
 use Rattle.std.proofs.lemmas.Fn.{filter_same}
-use Rattle.session_terms.specs.declared.entry.Version.{Version}
+use Rattle.session_model.specs.declared.entry.Version.{Version}
 use Rattle.session_state.specs.KeptActing.{is_present, is_named}
 use Rattle.session_state.proofs.keeping.drop_versions.Goals as goal
 

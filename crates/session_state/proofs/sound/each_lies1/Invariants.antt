@@ -1,6 +1,6 @@
 use Rattle.std.proofs.Common.{◌≡◌, ◌+◌, ◌-◌, ◌||◌, not, ℕ}
 use Rattle.std.specs.List.{list_all}
-use Rattle.session_terms.specs.Acting.{numbers_from}
+use Rattle.session_model.specs.Acting.{numbers_from}
 use Rattle.seq_tracks.specs.PlainTracks.{is_unfinished1}
 use Rattle.session_state.specs.SoundTest.{each_lies1, lies_in_one1}
 use Rattle.session_state.proofs.sound.each_lies1.Given as goal

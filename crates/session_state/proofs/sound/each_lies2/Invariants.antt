@@ -1,6 +1,6 @@
 use Rattle.std.proofs.Common.{◌≡◌, ◌+◌, ◌-◌, ◌||◌, not, ℕ}
 use Rattle.std.specs.List.{list_all}
-use Rattle.session_terms.specs.Acting.{numbers_from}
+use Rattle.session_model.specs.Acting.{numbers_from}
 use Rattle.seq_tracks.specs.PlainTracks.{is_unfinished2}
 use Rattle.session_state.specs.SoundTest.{each_lies2, lies_in_one2}
 use Rattle.session_state.proofs.sound.each_lies2.Given as goal

@@ -1,5 +1,5 @@
 use Rattle.std.proofs.Common.{◌==◌, false, []}
-use Rattle.session_terms.specs.Acting.{changed_if}
+use Rattle.session_model.specs.Acting.{changed_if}
 use Rattle.session_state.specs.KeptSub.{KeptSub}
 use Rattle.session_state.proofs.SubLemmas.{map_step}
 use Rattle.session_state.proofs.subs.end_sub.Goals as goal

@@ -1,6 +1,6 @@
 use Rattle.std.proofs.Common.{◌≡◌, ◌<◌, ◌+◌, length, take, get_or, ap, sym, ◌∙◌, arith, ℕ, List}
 use Rattle.std.proofs.lemmas.List.Sums.{sum_by_more, sum_by-take-le}
-use Rattle.topic_terms.specs.Levels.{text_of_levels}
+use Rattle.topic_model.specs.Levels.{text_of_levels}
 use Rattle.session_state.specs.KeptSub.{KeptSub}
 use Rattle.session_state.specs.KeptFits.{text_bytes}
 use Rattle.session_state.proofs.subs.text_bytes.Goals as goal

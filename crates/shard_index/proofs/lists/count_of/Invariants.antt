@@ -1,5 +1,5 @@
 use Rattle.std.proofs.Common.{◌≡◌, ◌≤◌, ◌+◌, drop, filter, length}
-use Rattle.shard_terms.specs.Storing.{is_of}
+use Rattle.shard_model.specs.Storing.{is_of}
 use Rattle.shard_index.proofs.lists.count_of.Given as goal
 
 abbrev pub invariant-loop-triple : goal.invariant-loop-triple

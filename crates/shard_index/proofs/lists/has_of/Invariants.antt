@@ -1,6 +1,6 @@
 use Rattle.std.proofs.Common.{◌≡◌, drop}
 use Rattle.std.specs.List.{list_any}
-use Rattle.shard_terms.specs.Storing.{is_of}
+use Rattle.shard_model.specs.Storing.{is_of}
 use Rattle.shard_index.proofs.lists.has_of.Given as goal
 
 abbrev pub invariant-loop-triple : goal.invariant-loop-triple

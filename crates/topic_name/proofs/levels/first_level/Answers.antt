@@ -1,5 +1,5 @@
 use Rattle.std.proofs.Common.{lit<}
-use Rattle.topic_terms.specs.LevelsLaws.{pieces_whole}
+use Rattle.topic_model.specs.laws.LevelsLaws.{pieces_whole}
 use Rattle.topic_name.proofs.LevelsLemmas.{cut_at_first}
 use Rattle.topic_name.proofs.levels.first_level.Goals as goal
 

@@ -1,5 +1,5 @@
 use Rattle.std.proofs.Common.{◌≡◌}
-use Rattle.topic_terms.specs.Matching.{levels_match}
+use Rattle.topic_model.specs.Matching.{levels_match}
 use Rattle.topic_name.specs.LevelsLeft.{levels_left}
 use Rattle.topic_name.proofs.matching.levels_match.Given as goal
 

@@ -1,5 +1,5 @@
 use Rattle.std.proofs.Common.{◌≡◌}
-use Rattle.topic_terms.specs.Texts.{has_bad_hash}
+use Rattle.topic_model.specs.Texts.{has_bad_hash}
 use Rattle.topic_name.specs.LevelsLeft.{levels_left}
 use Rattle.topic_name.proofs.texts.has_bad_hash.Given as goal
 

@@ -1,6 +1,6 @@
 use Rattle.std.proofs.Common.{◌≡◌}
 use Rattle.std.specs.List.{list_any}
-use Rattle.topic_terms.specs.Texts.{is_bad_plus}
+use Rattle.topic_model.specs.Texts.{is_bad_plus}
 use Rattle.topic_name.specs.LevelsLeft.{levels_left}
 use Rattle.topic_name.proofs.texts.has_bad_plus.Given as goal
 

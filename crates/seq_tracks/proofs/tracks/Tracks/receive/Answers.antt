@@ -1,5 +1,5 @@
 use Rattle.std.proofs.Common.{◌+◌, ◌-◌, ap, ◌∙◌}
-use Rattle.session_terms.specs.Acting.{numbers_from}
+use Rattle.session_model.specs.Acting.{numbers_from}
 use Rattle.seq_tracks.specs.PlainTracks.{PlainTracks}
 use Rattle.seq_tracks.specs.InOrder.{tracks_of}
 use Rattle.seq_tracks.specs.Changed.{with_done}

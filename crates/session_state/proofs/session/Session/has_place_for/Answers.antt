@@ -1,8 +1,8 @@
 use Rattle.std.proofs.Common.{◌≡◌, ℕ, ◌&&◌, ◌+◌, nat_le, nat_lt, length, is_none, ap, sym, ◌∙◌, arith}
-use Rattle.topic_terms.specs.Profile.{whole}
-use Rattle.topic_terms.specs.Levels.{text_of_levels}
-use Rattle.topic_terms.specs.Texts.{filter_refusal}
-use Rattle.session_terms.specs.Change.{Subscribes}
+use Rattle.topic_model.specs.Profile.{whole}
+use Rattle.topic_model.specs.Levels.{text_of_levels}
+use Rattle.topic_model.specs.Texts.{filter_refusal}
+use Rattle.session_model.specs.Change.{Subscribes}
 use Rattle.session_state.specs.declared.change.Effect.TheVariants.{Subscribed}
 use Rattle.session_state.specs.KeptSession.{KeptSession}
 use Rattle.session_state.specs.KeptActing.{kept_changed}

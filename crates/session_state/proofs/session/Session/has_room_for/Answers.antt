@@ -1,5 +1,5 @@
 use Rattle.std.proofs.Common.{◌≡◌, ℕ, ◌+◌, nat_le, ap, sym, ◌∙◌}
-use Rattle.topic_terms.specs.Profile.{whole}
+use Rattle.topic_model.specs.Profile.{whole}
 use Rattle.session_state.specs.declared.change.Effect.TheVariants.{Issued}
 use Rattle.session_state.specs.KeptSession.{KeptSession}
 use Rattle.session_state.specs.KeptActing.{kept_changed}

@@ -1,5 +1,5 @@
 use Rattle.std.proofs.Common.{◌≡◌, ap, subst, ◌∙◌, sym, true}
-use Rattle.topic_terms.specs.Profile.{whole}
+use Rattle.topic_model.specs.Profile.{whole}
 use Rattle.session_state.specs.declared.change.Effect.{Effect}
 use Rattle.session_state.specs.KeptSession.{KeptSession}
 use Rattle.session_state.specs.KeptActing.{kept_changed}

@@ -1,5 +1,5 @@
 use Rattle.std.proofs.Common.{ap, ◌∙◌}
-use Rattle.topic_terms.specs.Profile.{whole}
+use Rattle.topic_model.specs.Profile.{whole}
 use Rattle.session_state.specs.KeptSession.{KeptSessions, sessions_in}
 use Rattle.session_state.specs.KeptActing.{change_of}
 use Rattle.session_state.specs.KeptFits.{kept_fits}

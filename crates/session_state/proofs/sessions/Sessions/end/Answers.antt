@@ -1,5 +1,5 @@
 use Rattle.std.proofs.Common.{◌≡◌, ℕ, Bool, true, false, List, if◌then◌else◌, refl, ap, ◌∙◌}
-use Rattle.topic_terms.specs.Profile.{whole}
+use Rattle.topic_model.specs.Profile.{whole}
 use Rattle.session_state.specs.declared.change.Effect.TheVariants.{Ended}
 use Rattle.session_state.specs.KeptSession.{KeptSessions, sessions_in}
 use Rattle.session_state.specs.KeptActing.{acted_on, change_of, without_session}

@@ -1,5 +1,5 @@
 use Rattle.std.proofs.Common.{◌||◌, ◌&&◌, ◌==◌, ◌++◌, ◌∷◌, [], not, nat_lt, length, ap, sym, ◌∙◌}
-use Rattle.topic_terms.specs.Profile.{whole}
+use Rattle.topic_model.specs.Profile.{whole}
 use Rattle.session_state.specs.KeptSession.{KeptSessions, sessions_in}
 use Rattle.session_state.specs.KeptFits.{kept_are_within, wide_count}
 use Rattle.session_state.specs.WorkerLaws.{added_fits}

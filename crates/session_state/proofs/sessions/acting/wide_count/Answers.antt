@@ -1,5 +1,5 @@
 use Rattle.std.proofs.Common.{◌≡◌, ◌≤◌, suc, length, filter, if◌then◌else◌, ◌∷◌, sym, ap, ◌∙◌, arith}
-use Rattle.topic_terms.specs.Profile.{whole}
+use Rattle.topic_model.specs.Profile.{whole}
 use Rattle.session_state.specs.KeptSession.{sessions_in}
 use Rattle.session_state.specs.KeptFits.{is_wide, wide_count}
 use Rattle.session_state.specs.FilterLaws.{filter_shorter}

@@ -1,5 +1,5 @@
 use Rattle.std.proofs.Common.{◌≡◌, ◌+◌}
-use Rattle.topic_terms.specs.Profile.{whole}
+use Rattle.topic_model.specs.Profile.{whole}
 use Rattle.session_state.specs.KeptSession.{sessions_in}
 use Rattle.session_state.specs.KeptFits.{wide_count}
 use Rattle.session_state.proofs.sessions.acting.wide_count.Given as goal

@@ -1,6 +1,6 @@
 use Rattle.std.proofs.Common.{◌+◌, ◌-◌, if◌then◌else◌, Some, None, sym, ap, ◌∙◌}
-use Rattle.topic_terms.specs.Profile.{whole}
-use Rattle.shard_terms.specs.Capacity.{store_size}
+use Rattle.topic_model.specs.Profile.{whole}
+use Rattle.shard_model.specs.Capacity.{store_size}
 use Rattle.shard_index.specs.KeptIndex.{KeptIndex, list_of}
 use Rattle.shard_index.specs.Absorbing.{has_place}
 use Rattle.shard_index.specs.Sound.{newest_bytes}

@@ -1,5 +1,5 @@
 use Rattle.std.proofs.Common.{◌-◌, nat_lt, map, sym, ap, ◌∙◌, arith}
-use Rattle.shard_terms.specs.ShardList.{newest_of, next_of}
+use Rattle.shard_model.specs.ShardList.{newest_of, next_of}
 use Rattle.shard_index.specs.KeptIndex.{KeptIndex, cut_of, list_of}
 use Rattle.shard_index.specs.SoundLaws.{takes_one_more}
 use Rattle.shard_index.proofs.IndexLemmas.{count_test, first_within}

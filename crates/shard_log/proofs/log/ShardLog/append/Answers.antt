@@ -1,5 +1,5 @@
 use Rattle.std.proofs.Common.{ap, ◌∙◌}
-use Rattle.shard_terms.specs.ShardList.{next_of}
+use Rattle.shard_model.specs.ShardList.{next_of}
 use Rattle.shard_log.specs.PlainShardLog.{PlainShardLog, shown}
 use Rattle.shard_log.proofs.AnswerLemmas.{appends_err, appends_not, appends_ok}
 use Rattle.shard_log.proofs.log.ShardLog.append.Goals as goal

@@ -1,5 +1,5 @@
 use Rattle.std.proofs.Common.{◌≡◌, subst}
-use Rattle.shard_terms.specs.Storing.{store}
+use Rattle.shard_model.specs.Storing.{store}
 use Rattle.shard_index.specs.Absorbing.{absorbed_all}
 use Rattle.shard_index.specs.KeptIndex.{list_of}
 use Rattle.record_codec.specs.Records.{plain_ops}

@@ -1,5 +1,5 @@
-use Rattle.topic_terms.specs.LevelsLaws.{some_level}
-use Rattle.topic_terms.specs.TextsLaws.{filter_text}
+use Rattle.topic_model.specs.laws.LevelsLaws.{some_level}
+use Rattle.topic_model.specs.laws.TextsLaws.{filter_text}
 use Rattle.topic_name.proofs.filter.Filter.levels.Goals as goal
 
 pub returns-clause-some : goal.returns-clause-some

@@ -1,5 +1,5 @@
 use Rattle.std.proofs.Common.{◌≡◌, Some, sym, ap, ◌∙◌}
-use Rattle.topic_terms.specs.declared.refused.FilterRefused.TheVariants.{Memory}
+use Rattle.topic_model.specs.declared.refused.FilterRefused.TheVariants.{Memory}
 use Rattle.topic_name.proofs.TextsLemmas.{filter_never_memory}
 use Rattle.topic_name.proofs.filter.Filter.read.Goals as goal
 

@@ -1,6 +1,6 @@
 -- The text is its levels joined again.
 use Rattle.std.proofs.Common.{sym, ◌∙◌}
-use Rattle.topic_terms.specs.LevelsLaws.{text_of-levels_of}
+use Rattle.topic_model.specs.laws.LevelsLaws.{text_of-levels_of}
 use Rattle.topic_name.proofs.filter.Filter.text.Goals as goal
 
 pub returns-clause-text : goal.returns-clause-text

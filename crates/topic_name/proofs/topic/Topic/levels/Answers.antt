@@ -1,5 +1,5 @@
-use Rattle.topic_terms.specs.LevelsLaws.{some_level}
-use Rattle.topic_terms.specs.TextsLaws.{topic_text}
+use Rattle.topic_model.specs.laws.LevelsLaws.{some_level}
+use Rattle.topic_model.specs.laws.TextsLaws.{topic_text}
 use Rattle.topic_name.proofs.topic.Topic.levels.Goals as goal
 
 pub returns-clause-some : goal.returns-clause-some

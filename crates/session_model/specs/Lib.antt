@@ -1,0 +1,11 @@
+pub mod Entry
+pub mod PlainSession
+pub mod Unfinished
+pub mod Change
+pub mod Acting
+pub mod FitsSession
+pub mod Ends
+pub mod IssuedPrefix
+pub mod Orders
+pub mod Examples
+pub mod laws

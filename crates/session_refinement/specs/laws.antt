@@ -1,0 +1,22 @@
+-- What is proved of the definitions beside this folder.
+pub mod ListLaws
+pub mod BatchLaws
+pub mod KeepLaws
+pub mod ChangeLaws
+pub mod GoneLaws
+pub mod EffectLaws
+pub mod OneSubLaws
+pub mod IssueLaws
+pub mod KeepsLaws
+pub mod FitLaws
+pub mod SessionLaws
+pub mod StartLaws
+pub mod ServedLaws
+pub mod WithinLaws
+pub mod StandLaws
+pub mod ReadAgainLaws
+pub mod StandIssueLaws
+pub mod SessionStandLaws
+pub mod BatchFitLaws
+pub mod ReadyLaws
+pub mod GrowLaws

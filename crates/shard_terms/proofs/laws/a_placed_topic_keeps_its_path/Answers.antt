@@ -1,5 +1,0 @@
-use Rattle.shard_terms.specs.PathLaws.{topic_keeps_path}
-use Rattle.shard_terms.proofs.laws.a_placed_topic_keeps_its_path.Goals as goal
-
-pub returns : goal.returns
-returns c = topic_keeps_path

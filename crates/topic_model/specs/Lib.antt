@@ -1,0 +1,9 @@
+pub mod Levels
+pub mod Matching
+pub mod Texts
+pub mod Routing
+pub mod StoredMessage
+pub mod Profile
+pub mod Limits
+pub mod Examples
+pub mod laws

@@ -1,0 +1,4 @@
+-- What is proved of the definitions beside this folder.
+pub mod LevelsLaws
+pub mod TextsLaws
+pub mod RoutingLaws

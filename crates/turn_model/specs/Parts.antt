@@ -1,0 +1,311 @@
+-- Parts of a turn: what one call of a worker does, at an arrival and behind what it asked for.
+use Rattle.std.specs.Prelude.{ℕ, zero, suc, ◌+◌, max, Bool, true, false, ◌&&◌, not, ◌==◌, ◌%◌, nat_lt, if◌then◌else◌, List, [], ◌∷◌, ◌++◌, length, map, filter, slice_get, Option, Some, None}
+use Rattle.std.specs.List.{list_any}
+use Rattle.topic_model.specs.Profile.{Profile, Config}
+use Rattle.shard_model.specs.ShardList.{ShardList, newest}
+use Rattle.shard_model.specs.SweepOrder.{counted_from}
+use Rattle.shard_model.specs.Choices.{Fates, Drawn, draw}
+use Rattle.session_model.specs.declared.entry.Entry.{Entry}
+use Rattle.session_model.specs.declared.entry.Kind.{Kind}
+use Rattle.session_model.specs.declared.entry.Kind.TheVariants.{Silent}
+use Rattle.session_model.specs.PlainSession.{PlainSession}
+use Rattle.session_model.specs.Change.{Issues}
+use Rattle.session_model.specs.Ends.{moment_of}
+use Rattle.mqtt_frame.specs.PlainFramer.{opening}
+use Rattle.mqtt_packet.specs.Packet.{Publish, PublishFields}
+use Rattle.turn_model.specs.PlainConnection.{PlainConnection, rest_of}
+use Rattle.turn_model.specs.Pump.{pump_of}
+use Rattle.turn_model.specs.Resend.{Resent, resent, Again, Publishes, again, pass_changes, issued_packets}
+use Rattle.turn_model.specs.Step.{Outcome, Kept, IsFull, AwaitsTooMany, Faulted, Close, Step, is_nothing}
+use Rattle.turn_model.specs.PacketStep.{tick_step}
+use Rattle.turn_model.specs.Worker.{Worker, Pending, Closed, connection_in, session_in, sessions_of}
+use Rattle.turn_model.specs.WorkerMoves.{Emit, OfResend, OfPump, OfTick, Settle, Ending, by_client, silently, with_reason}
+use Rattle.turn_model.specs.Draft.{Draft, Part, Beside, Todo, Waiting, Failed, Token, Arrival, Opened, Bytes, ClosedByClient, Pump, Tick, ForBodies, ForDrop, After, AfterPublishes, AfterRelease, AfterBodies, AfterDrop, no_report, fresh_draft, part_of, is_going, reading_at, push, views_pushed, not_open, ended_with, own_bound_closed, own_unbound_closed, commit, committed, answered}
+use Rattle.turn_model.specs.Pieces.{piece_taken, tokens_taken, told, asked}
+use Rattle.turn_model.specs.Reasons as Reason
+
+-- what the outside answered: a shard's append, its reading of bodies, and its drop
+pub data Answered : Type 0 where
+  GroupIs : Outcome → Answered
+  BodiesRead : Answered
+  BodiesGone : ℕ → Answered
+  BodiesFailed : Answered
+  DropDone : Answered
+  DropFailed : Answered
+
+-- ---- bodies that aren't in memory
+
+-- that of a message in a sealed generation
+abbrev pub is_cold : ShardList → ℕ → Bool
+is_cold list offset = nat_lt offset (newest list).first
+
+abbrev pub is_cold_in : Option ShardList → ℕ → Bool
+is_cold_in None offset = false
+is_cold_in (Some list) offset = is_cold list offset
+
+abbrev pub cold_places : List ShardList → ℕ → List Entry → List ℕ
+cold_places lists shard es =
+    map (λ (e : Entry). e.offset) (filter (λ (e : Entry). (e.shard == shard) && is_cold_in (slice_get lists shard) e.offset) es)
+
+abbrev pub is_loud : Kind → Bool
+is_loud Silent = false
+is_loud other = true
+
+abbrev pub is_publish : Again → Bool
+is_publish (Publishes packet) = true
+is_publish other = false
+
+-- the entries of a batch, or of what is sent again, whose messages are put out
+abbrev pub loud : List Entry → List Entry
+loud es = filter (λ (e : Entry). is_loud e.kind) es
+
+abbrev pub published_again : PlainSession → PlainConnection → ℕ → List ShardList → List Entry → List Entry
+published_again m k now lists es = filter (λ (e : Entry). is_publish (again m k.packet_limit now lists e)) es
+
+-- the first shard from a number on, not asked yet, that has such bodies, with their offsets
+abbrev pub or_places : ℕ → List ℕ → Option (ℕ × List ℕ) → Option (ℕ × List ℕ)
+or_places shard [] later = later
+or_places shard (place ∷ places) later = Some (shard, place ∷ places)
+
+abbrev pub is_asked : ℕ → List ℕ → Bool
+is_asked shard shards = list_any (λ (s : ℕ). s == shard) shards
+
+abbrev pub first_cold : List ShardList → List ℕ → List Entry → List ℕ → Option (ℕ × List ℕ)
+first_cold lists asked es [] = None
+first_cold lists asked es (shard ∷ shards) =
+    or_places shard (if is_asked shard asked then [] else cold_places lists shard es) (first_cold lists asked es shards)
+
+module _ (profile : Profile) (config : Config) (now : ℕ) where
+  -- ---- a pump
+
+  abbrev pub passed_after : ℕ → Option PlainConnection → Option PlainSession → Draft → Draft
+  passed_after conn (Some k) (Some m) d =
+      if is_nothing (pass_changes m k) then d else committed profile config now (OfPump conn None) (length (pass_changes m k)) d
+  passed_after conn k m d = d
+
+  -- what is sent again is put out, and then what was passed over above the marks is finished
+  abbrev pub resent_out : ℕ → Resent → Draft → Draft
+  resent_out conn r d =
+      let sent = push profile config now (Emit (OfResend conn) now) (record d { report = record d.report { sent = length r.packets } }) in
+      passed_after conn (connection_in sent.worker conn) (session_in sent.worker conn) sent
+
+  abbrev pub counted : ℕ → ℕ → Draft → Draft
+  counted issued sent d = record d { report = record d.report { issued = issued; sent = sent } }
+
+  abbrev pub counted_if : Bool → ℕ → ℕ → Draft → Draft
+  counted_if true issued sent d = counted issued sent d
+  counted_if false issued sent d = d
+
+  abbrev pub issued_out : ℕ → PlainSession → PlainConnection → Issues → Draft → Draft
+  issued_out conn m k b d =
+      let done = committed profile config now (OfPump conn (Some b)) (1 + length (pass_changes m k)) d in
+      answered profile config now conn (counted_if (is_going done.status) (length b.entries) (length (issued_packets now m d.worker.seen b.entries)) done)
+
+  abbrev pub asking_bodies : List ℕ → ℕ × List ℕ → Draft → Draft
+  asking_bodies asked places d = record d { status = Waiting (ForBodies places.0 places.1) (AfterBodies (asked ++ places.0 ∷ [])) }
+
+  abbrev pub cold_of : List ℕ → List Entry → Draft → Option (ℕ × List ℕ)
+  cold_of asked es d = if profile.cools then first_cold d.worker.seen asked es (counted_from 0 (length d.worker.seen)) else None
+
+  abbrev pub resend_unless : Option (ℕ × List ℕ) → List ℕ → ℕ → Resent → Draft → Draft
+  resend_unless (Some places) asked conn r d = asking_bodies asked places d
+  resend_unless None asked conn r d = resent_out conn r d
+
+  abbrev pub issue_unless : Option (ℕ × List ℕ) → List ℕ → ℕ → PlainSession → PlainConnection → Issues → Draft → Draft
+  issue_unless (Some places) asked conn m k b d = asking_bodies asked places d
+  issue_unless None asked conn m k b d = issued_out conn m k b d
+
+  abbrev pub issued_by : List ℕ → ℕ → PlainSession → PlainConnection → Option Issues → Draft → Draft
+  issued_by asked conn m k None d = passed_after conn (Some k) (Some m) d
+  issued_by asked conn m k (Some b) d = issue_unless (cold_of asked (loud b.entries) d) asked conn m k b d
+
+  -- what is left to be sent again goes first
+  abbrev pub pumped_by : List ℕ → ℕ → PlainSession → PlainConnection → List Entry → Draft → Draft
+  pumped_by asked conn m k (e ∷ es) d =
+      let r = resent profile now m k d.worker.seen in
+      resend_unless (cold_of asked (published_again m k now d.worker.seen r.taken) d) asked conn r d
+  pumped_by asked conn m k [] d = issued_by asked conn m k (pump_of profile now m k d.worker.seen) d
+
+  abbrev pub pumped_with : List ℕ → ℕ → Option PlainConnection → Option PlainSession → Draft → Draft
+  pumped_with asked conn (Some k) (Some m) d = pumped_by asked conn m k (rest_of m k) d
+  pumped_with asked conn k m d = d
+
+  -- a pump that has asked these shards for bodies
+  abbrev pub pumped : List ℕ → ℕ → Draft → Draft
+  pumped asked conn d = pumped_with asked conn (connection_in d.worker conn) (session_in d.worker conn) d
+
+  -- ---- a Tick
+
+  abbrev pub ending_by : Option ℕ → Ending
+  ending_by None = silently None
+  ending_by (Some reason) = with_reason reason
+
+  abbrev pub closes_made : List Close → Draft → Draft
+  closes_made [] d = d
+  closes_made (close ∷ closes) d = closes_made closes (ended_with profile config now close.connection (ending_by close.reason) d)
+
+  -- what a Tick does over the worker as it stands
+  abbrev pub tick_over : Draft → Step
+  tick_over d = tick_step now d.worker.connections (sessions_of d.worker)
+
+  abbrev pub tick_commit_if : Bool → Draft → Draft
+  tick_commit_if true d = commit profile config now OfTick OfTick d
+  tick_commit_if false d = d
+
+  abbrev pub are_over : Draft → Bool
+  are_over d = not (is_nothing (tick_over d).changes)
+
+  -- as many records as the sessions that are over take, behind the owed changes
+  abbrev pub tick_commits : ℕ → Draft → Draft
+  tick_commits zero d = d
+  tick_commits (suc more) d = tick_commits more (tick_commit_if (are_over d) d)
+
+  abbrev pub sessions_ended : Draft → Draft
+  sessions_ended d = tick_commits (length d.worker.owed + length (tick_over d).changes) d
+
+  -- the shards whose generations this worker drops
+  abbrev pub own_shards : Worker → List ℕ
+  own_shards w = filter (λ (shard : ℕ). (shard % config.workers) == w.number) (counted_from 0 config.shards)
+
+  abbrev pub drops_asked : List ℕ → Draft → Draft
+  drops_asked [] d = d
+  drops_asked (shard ∷ shards) d = record d { status = Waiting (ForDrop shard) (AfterDrop shards) }
+
+  abbrev pub drops_if : Bool → Draft → Draft
+  drops_if true d = drops_asked (own_shards d.worker) d
+  drops_if false d = d
+
+  -- one generation is never dropped
+  abbrev pub ticked : Draft → Draft
+  ticked d =
+      let ended = sessions_ended (closes_made (tick_over d).closes d) in
+      drops_if (is_going ended.status && nat_lt 1 profile.generations) ended
+
+  -- ---- an arrival
+
+  abbrev pub opened : ℕ → Draft → Draft
+  opened conn d =
+      record d { beside = record d.beside { readings = d.beside.readings ++ record { connection = conn; framer = opening profile.packet } ∷ [] } }
+
+  abbrev pub left_by_client : ℕ → Option PlainConnection → Draft → Draft
+  left_by_client conn (Some k) d = ended_with profile config now conn by_client d
+  left_by_client conn None d = not_open conn d
+
+  abbrev pub arrived : Arrival → Draft → Draft
+  arrived (Opened conn) d = opened conn d
+  arrived (Bytes conn piece) d = piece_taken profile config now conn piece (reading_at conn d.beside.readings) d
+  arrived (ClosedByClient conn) d = left_by_client conn (connection_in d.worker conn) d
+  arrived (Pump conn) d = pumped [] conn d
+  arrived Tick d = ticked d
+
+  abbrev pub own_of : Arrival → Option ℕ
+  own_of (Opened conn) = Some conn
+  own_of (Bytes conn piece) = Some conn
+  own_of (ClosedByClient conn) = Some conn
+  own_of (Pump conn) = Some conn
+  own_of Tick = None
+
+  -- an arrival that isn't taken: its connection is closed
+  abbrev pub not_taken_by : ℕ → Option PlainConnection → Draft → Draft
+  not_taken_by conn (Some k) d = own_bound_closed profile config now conn (with_reason Reason.implementation_error) 0 d
+  not_taken_by conn None d = own_unbound_closed conn 0 d
+
+  abbrev pub not_taken : Arrival → Draft → Draft
+  not_taken (Opened conn) d = record d { outs = d.outs ++ Closed conn ∷ [] }
+  not_taken (Bytes conn piece) d = not_taken_by conn (connection_in d.worker conn) d
+  not_taken (ClosedByClient conn) d = not_taken_by conn (connection_in d.worker conn) d
+  not_taken (Pump conn) d = not_taken_by conn (connection_in d.worker conn) d
+  not_taken Tick d = d
+
+  -- a journal in doubt is settled first
+  abbrev pub settled_unless : Bool → Bool → Arrival → Draft → Draft
+  settled_unless true goes_in arrival d = record (not_taken arrival d) { status = Failed }
+  settled_unless false goes_in arrival d = arrived arrival (push profile config now (Settle goes_in now) d)
+
+  abbrev pub settled_with : Drawn → Arrival → Draft → Draft
+  settled_with drawn arrival d = settled_unless drawn.fails drawn.goes_in arrival (record d { fates = drawn.fates })
+
+  abbrev pub settled_first : Option Pending → Arrival → Draft → Draft
+  settled_first None arrival d = arrived arrival d
+  settled_first (Some p) arrival d = settled_with (draw d.fates) arrival d
+
+  abbrev pub started : Arrival → Draft → Draft
+  started arrival d = settled_first d.worker.pending arrival d
+
+  -- ---- behind what was asked
+
+  abbrev pub failed_shard : ℕ → Draft → Draft
+  failed_shard shard d = record d { report = record d.report { shard_fault = Some shard } }
+
+  -- the next publish that is asked by itself, or the tokens that are left
+  abbrev pub gone_on : ℕ → List PublishFields → List Token → Draft → Draft
+  gone_on conn (p ∷ ps) tokens d = record (asked profile config now conn (p ∷ []) d) { singly = ps; rest = tokens }
+  gone_on conn [] tokens d = tokens_taken profile config now conn tokens (record d { singly = []; rest = [] })
+
+  abbrev pub gone_on_if : Bool → ℕ → List PublishFields → List Token → Draft → Draft
+  gone_on_if true conn ps tokens d = gone_on conn ps tokens d
+  gone_on_if false conn ps tokens d = d
+
+  abbrev pub went_on : ℕ → Todo → Draft → Draft
+  went_on conn todo d = gone_on_if (is_going d.status) conn todo.singly todo.rest d
+
+  -- a refused group of several is asked again publish by publish
+  abbrev pub refused_publishes : ℕ → List PublishFields → Outcome → Todo → Draft → Draft
+  refused_publishes conn [] outcome todo d = went_on conn todo d
+  refused_publishes conn (p ∷ []) outcome todo d = went_on conn todo (told profile config now conn (Publish p) (outcome ∷ []) d)
+  refused_publishes conn (p ∷ q ∷ ps) outcome todo d = gone_on conn (p ∷ q ∷ ps) todo.rest d
+
+  abbrev pub own_failed : ℕ → ℕ → Draft → Draft
+  own_failed conn shard d = own_bound_closed profile config now conn (with_reason Reason.implementation_error) 0 (failed_shard shard d)
+
+  abbrev pub publishes_done : ℕ → ℕ → List PublishFields → Outcome → Todo → Draft → Draft
+  publishes_done conn shard ps Kept todo d = went_on conn todo (answered profile config now conn d)
+  publishes_done conn shard ps IsFull todo d = refused_publishes conn ps IsFull todo d
+  publishes_done conn shard ps AwaitsTooMany todo d = refused_publishes conn ps AwaitsTooMany todo d
+  publishes_done conn shard ps Faulted todo d = own_failed conn shard d
+
+  abbrev pub release_done : ℕ → ℕ → Outcome → Todo → Draft → Draft
+  release_done conn shard Kept todo d = went_on conn todo (answered profile config now conn d)
+  release_done conn shard other todo d = own_failed conn shard d
+
+  abbrev pub bodies_done : ℕ → ℕ → List ℕ → Answered → Draft → Draft
+  bodies_done conn shard shards BodiesRead d = pumped shards conn d
+  bodies_done conn shard shards (BodiesGone offset) d = record d { report = record d.report { gone = Some offset } }
+  bodies_done conn shard shards other d = failed_shard shard d
+
+  abbrev pub drop_done : ℕ → List ℕ → Answered → Draft → Draft
+  drop_done shard shards DropDone d = drops_asked shards d
+  drop_done shard shards other d = drops_asked shards (failed_shard shard d)
+
+  abbrev pub outcome_in : Answered → Outcome
+  outcome_in (GroupIs outcome) = outcome
+  outcome_in other = Faulted
+
+  -- by what the call asked of this shard
+  abbrev pub resumed_after : ℕ → Option ℕ → Option After → Answered → Todo → Draft → Draft
+  resumed_after shard (Some conn) (Some (AfterPublishes ps)) answer todo d = publishes_done conn shard ps (outcome_in answer) todo d
+  resumed_after shard (Some conn) (Some (AfterRelease packet)) answer todo d = release_done conn shard (outcome_in answer) todo d
+  resumed_after shard (Some conn) (Some (AfterBodies shards)) answer todo d = bodies_done conn shard shards answer d
+  resumed_after shard own (Some (AfterDrop shards)) answer todo d = drop_done shard shards answer d
+  resumed_after shard own after answer todo d = d
+
+-- ---- the parts
+
+-- the moment of a turn: the given one or the last turn's, whichever is later
+abbrev pub turn_moment : Beside → ℕ → ℕ
+turn_moment beside now = max (moment_of now) beside.last
+
+-- `start`: a View of every shard, the journal settled where it is in doubt, and then the arrival
+abbrev pub start_part : Profile → Config → Worker → Beside → Arrival → ℕ → List ShardList → Fates → Part
+start_part profile config w beside arrival now views fates =
+    let moment = turn_moment beside now in
+    part_of (own_of profile config moment arrival)
+    (started profile config moment arrival
+    (views_pushed profile config moment 0 views (fresh_draft w (record beside { last = moment }) fates no_report)))
+
+-- `resume`: a View of every shard, and then what follows the answer of this shard, at the turn's moment
+abbrev pub resume_part : Profile → Config → Worker → Beside → Todo → ℕ → Answered → List ShardList → Fates → Part
+resume_part profile config w beside todo shard answer views fates =
+    part_of todo.connection
+    (resumed_after profile config beside.last shard todo.connection todo.after answer todo
+    (views_pushed profile config beside.last 0 views (fresh_draft w beside fates todo.report)))

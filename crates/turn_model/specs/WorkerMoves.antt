@@ -1,0 +1,510 @@
+-- The moves of a worker, and what they put out. A move that isn't allowed changes nothing and puts out nothing.
+use Rattle.std.specs.Prelude.{ℕ, ◌+◌, ◌-◌, Bool, true, false, ◌&&◌, ◌||◌, not, ◌==◌, nat_le, if◌then◌else◌, List, [], ◌∷◌, ◌++◌, length, map, filter, find, take, drop, slice_get, slice_set, Option, Some, None, is_some, is_none}
+use Rattle.std.specs.List.{list_any, list_all}
+use Rattle.std.specs.Str.{bytes_eq}
+use Rattle.topic_model.specs.Profile.{Profile, Config}
+use Rattle.topic_model.specs.StoredMessage.{StoredMessage}
+use Rattle.shard_model.specs.ShardList.{ShardList}
+use Rattle.session_model.specs.PlainSession.{PlainSession, session_of}
+use Rattle.session_model.specs.Change.{Change, Effect, Began, Bound, Issued, Issues, change}
+use Rattle.session_model.specs.Acting.{act_all, changed_session}
+use Rattle.session_model.specs.Ends.{part_changes, restart_owes}
+use Rattle.mqtt_packet.specs.Packet.{PlainPacket, Publish, Ack, Disconnect, ConnectFields}
+use Rattle.turn_model.specs.PlainConnection.{PlainConnection, Effects, no_effects, both_effects, connection_of, bound_connection, without_connection, on_connection, after_packets}
+use Rattle.turn_model.specs.Batch.{quota_used}
+use Rattle.turn_model.specs.MayIssue.{may_issue}
+use Rattle.turn_model.specs.Resend.{Resent, resent, resent_connection, with_rest, pass_changes, issued_packets}
+use Rattle.turn_model.specs.Step.{Setting, Outcome, Kept, IsFull, AwaitsTooMany, Faulted, Reply, Step, is_nothing, is_settled, owes_nothing}
+use Rattle.turn_model.specs.PublishStep.{acked_replies, acknowledged, holding, completed, of_shard}
+use Rattle.turn_model.specs.ConnectStep.{connect_refusal, connect_step, client_for, takeover_close}
+use Rattle.turn_model.specs.PacketStep.{packet_step, closed_step, tick_step}
+use Rattle.turn_model.specs.Worker.{Worker, Item, Answer, Answers, Accepts, Delivers, Pending, Note, note, SentAgain, Delivered, Out, Sent, Closed, sessions_of, setting_of, connection_in, session_in, sent_on, sendable, packets_of, acked_by}
+use Rattle.turn_model.specs.Worker as Worker
+use Rattle.turn_model.specs.Reasons as Reason
+
+-- Why a record is made: packets of a connection, one after another; a CONNECT; a pump, with the batch that it issues, if it issues one; a
+-- Tick; or changes that are owed, where they and others don't go into one record.
+pub data Cause : Type 0 where
+  OfPackets : ℕ → List PlainPacket → Cause
+  OfConnect : ℕ → ConnectFields → Cause
+  OfPump : ℕ → Option Issues → Cause
+  OfTick : Cause
+  OfOwed : Cause
+
+-- What is put out: the item at a place among those due; the answer of a packet that asks for no group and changes nothing, or whose group
+-- was refused; what is to be sent again.
+pub data Emitted : Type 0 where
+  OfItem : ℕ → Emitted
+  OfPacket : ℕ → PlainPacket → List Outcome → Emitted
+  OfResend : ℕ → Emitted
+
+-- How a connection ends: with a DISCONNECT of this reason, if with one; whether the server closes it; and the interval that the client
+-- named in its own DISCONNECT, if it did.
+pub record Ending : Type 0 where
+  pub reason : Option ℕ
+  pub by_server : Bool
+  pub expiry : Option ℕ
+
+abbrev pub by_client : Ending
+by_client = record { reason = None; by_server = false; expiry = None }
+
+abbrev pub with_reason : ℕ → Ending
+with_reason reason = record { reason = Some reason; by_server = true; expiry = None }
+
+abbrev pub silently : Option ℕ → Ending
+silently expiry = record { reason = None; by_server = true; expiry = expiry }
+
+-- the packets of a connection whose group a shard stores, and the session that it was bound to
+pub record Asked : Type 0 where
+  pub worker : ℕ
+  pub connection : ℕ
+  pub client : List ℕ
+  pub incarnation : ℕ
+  pub packets : List PlainPacket
+
+pub data WorkerMove : Type 0 where
+  -- a shard shows this list
+  View : ℕ → ShardList → WorkerMove
+  BeginCommit : Cause → ℕ → WorkerMove
+  Commit : WorkerMove
+  -- what pends is found to be in or not, at a moment
+  Settle : Bool → ℕ → WorkerMove
+  -- a shard stored the group of these packets: for each publish the message that stands for it
+  Stored : ℕ → Asked → List (Option StoredMessage) → WorkerMove
+  Emit : Emitted → ℕ → WorkerMove
+  Bind : ℕ → ℕ → WorkerMove
+  TakeOver : ℕ → WorkerMove
+  Unbind : ℕ → Ending → ℕ → WorkerMove
+
+-- ---- View
+
+-- what a pump was to put out is no longer fresh
+abbrev pub aged_answer : Answer → Answer
+aged_answer (Answers rs effects) = Answers rs effects
+aged_answer (Accepts c client rs) = Accepts c client rs
+aged_answer (Delivers b fresh) = Delivers b false
+
+abbrev pub aged : Item → Item
+aged i = record i { answer = aged_answer i.answer }
+
+abbrev pub aged_pending : Option Pending → Option Pending
+aged_pending None = None
+aged_pending (Some p) = Some (record p { item = elim (p.item) as (λ i. Option Item) [ None ↦ None | Some i ↦ Some (aged i) ] })
+
+abbrev pub viewed : ℕ → ShardList → Worker → Worker
+viewed shard list w = record w { seen = slice_set w.seen shard list; pending = aged_pending w.pending; due = map aged w.due }
+
+-- ---- records
+
+-- As the packets of a record are gone through: the session so far, and what they change, are answered and do to the connection.
+pub record Stepped : Type 0 where
+  pub session : PlainSession
+  pub changes : List Change
+  pub replies : List Reply
+  pub effects : Effects
+  pub settled : Bool
+
+abbrev pub not_stepped : PlainSession → Stepped
+not_stepped m = record { session = m; changes = []; replies = []; effects = no_effects; settled = true }
+
+abbrev pub changed_by : List Change → PlainSession → PlainSession
+changed_by [] m = m
+changed_by (c ∷ changes) m = changed_by changes (changed_session c.effect m)
+
+abbrev pub stepped_by : Step → Stepped → Stepped
+stepped_by step st =
+    record {
+      session = changed_by step.changes st.session;
+      changes = st.changes ++ step.changes;
+      replies = st.replies ++ step.replies;
+      effects = both_effects st.effects step.effects;
+      settled = st.settled && is_settled step;
+    }
+
+abbrev pub stepped_all : Setting → PlainConnection → List PlainPacket → Stepped → Stepped
+stepped_all s k [] st = st
+stepped_all s k (packet ∷ packets) st = stepped_all s k packets (stepped_by (packet_step s k st.session packet []) st)
+
+-- a record has room for these changes behind all that is owed; those of one packet stay together however many they are
+abbrev pub has_room : Profile → Worker → List Change → Bool
+has_room profile w changes = is_nothing w.owed || nat_le (length w.owed + length changes) profile.changes
+
+abbrev pub pending_if : Bool → Worker → List Change → Option Item → Option Pending
+pending_if true w changes item = Some (record { owed = w.owed; changes = changes; item = item })
+pending_if false w changes item = None
+
+-- of some changes, where there is room
+abbrev pub pending_of : Profile → Worker → Bool → List Change → Option Item → Option Pending
+pending_of profile w allowed changes item = pending_if (allowed && (not (is_nothing changes) && has_room profile w changes)) w changes item
+
+abbrev pub item : ℕ → Answer → Item
+item conn answer = record { connection = conn; answer = answer }
+
+-- packets that ask for no group and don't close
+abbrev pub packets_pending : Profile → Worker → ℕ → Stepped → Option Pending
+packets_pending profile w conn st = pending_of profile w st.settled st.changes (Some (item conn (Answers st.replies st.effects)))
+
+abbrev pub packets_record : Setting → Worker → ℕ → List PlainPacket → Option PlainConnection → Option PlainSession → Option Pending
+packets_record s w conn packets (Some k) (Some m) = packets_pending s.profile w conn (stepped_all s k packets (not_stepped m))
+packets_record s w conn packets k m = None
+
+-- a CONNECT that isn't refused, on a connection that isn't bound and has no other one under way
+abbrev pub has_item : ℕ → List Item → Bool
+has_item conn is = list_any (λ (i : Item). i.connection == conn) is
+
+abbrev pub connect_record : Setting → Worker → ℕ → ConnectFields → Step → Option Pending
+connect_record s w conn c step =
+    pending_of s.profile w
+    (is_none (connection_in w conn) && (not (has_item conn w.due) && is_none (connect_refusal s c)))
+    step.changes
+    (Some (item conn (Accepts c (client_for s c) step.replies)))
+
+-- a batch that may be issued, and what was passed over directly above the marks
+abbrev pub issued_change : PlainSession → Option Issues → List Change
+issued_change m None = []
+issued_change m (Some b) = change m.client (Issued b) ∷ []
+
+abbrev pub may_issue_if : Setting → PlainSession → PlainConnection → Option Issues → Bool
+may_issue_if s m k None = true
+may_issue_if s m k (Some b) = may_issue s.profile m k s.now s.seen b
+
+abbrev pub delivering : ℕ → Option Issues → Option Item
+delivering conn None = None
+delivering conn (Some b) = Some (item conn (Delivers b true))
+
+abbrev pub pump_record : Setting → Worker → ℕ → Option Issues → Option PlainConnection → Option PlainSession → Option Pending
+pump_record s w conn b (Some k) (Some m) =
+    pending_of s.profile w (may_issue_if s m k b) (issued_change m b ++ pass_changes m k) (delivering conn b)
+pump_record s w conn b k m = None
+
+-- the sessions that are over end, as many as a record has room for
+abbrev pub tick_record : Setting → Worker → List Change → Option Pending
+tick_record s w [] = None
+tick_record s w (c ∷ changes) =
+    Some (record {
+      owed = take s.profile.changes w.owed;
+      changes = take (s.profile.changes - length w.owed) (c ∷ changes);
+      item = None;
+    })
+
+abbrev pub owed_record : Profile → Worker → List Change → Option Pending
+owed_record profile w [] = None
+owed_record profile w (c ∷ changes) = Some (record { owed = take profile.changes (c ∷ changes); changes = []; item = None })
+
+abbrev pub record_of : Setting → Worker → Cause → Option Pending
+record_of s w (OfPackets conn packets) = packets_record s w conn packets (connection_in w conn) (session_in w conn)
+record_of s w (OfConnect conn c) = connect_record s w conn c (connect_step s conn c)
+record_of s w (OfPump conn b) = pump_record s w conn b (connection_in w conn) (session_in w conn)
+record_of s w OfTick = tick_record s w (tick_step s.now s.connections s.sessions).changes
+record_of s w OfOwed = owed_record s.profile w w.owed
+
+abbrev pub begun_unless : Option Pending → Option Pending → Worker → Worker
+begun_unless None (Some p) w = record w { pending = Some p }
+begun_unless pending asked w = w
+
+-- ---- a record that is in
+
+-- the clients whose sessions a record begins or binds
+abbrev pub binds : Effect → Bool
+binds (Began b) = true
+binds (Bound expiry) = true
+binds other = false
+
+abbrev pub bound_by : List Change → List (List ℕ)
+bound_by changes = map (λ (c : Change). c.client) (filter (λ (c : Change). binds c.effect) changes)
+
+abbrev pub is_client_of : List (List ℕ) → Change → Bool
+is_client_of clients c = list_any (λ (client : List ℕ). bytes_eq client c.client) clients
+
+abbrev pub not_of : List (List ℕ) → List Change → List Change
+not_of clients changes = filter (λ (c : Change). not (is_client_of clients c)) changes
+
+-- What it began with is no longer owed, nor is the end of a connection that came before its session is bound anew.
+abbrev pub with_record : Pending → Worker → Worker
+with_record p w =
+    record w {
+      committed = act_all w.committed (p.owed ++ p.changes);
+      owed = not_of (bound_by p.changes) (drop (length p.owed) w.owed);
+      pending = None;
+    }
+
+abbrev pub handed_on : Option Item → Worker → Worker
+handed_on None w = w
+handed_on (Some i) w = record w { due = w.due ++ i ∷ [] }
+
+abbrev pub committed_by : Option Pending → Worker → Worker
+committed_by None w = w
+committed_by (Some p) w = handed_on p.item (with_record p w)
+
+-- a session without a connection parts at this moment, as nothing else would say when it ends
+abbrev pub parting : ℕ → Option PlainConnection → Option PlainSession → List Change
+parting now None (Some m) = part_changes m.client m.expiry now
+parting now k m = []
+
+abbrev pub partings : ℕ → Worker → List (List ℕ) → List Change
+partings now w [] = []
+partings now w (client ∷ clients) = parting now (connection_of client w.connections) (session_of client w.committed) ++ partings now w clients
+
+abbrev pub settled_in : ℕ → Pending → Worker → Worker
+settled_in now p w = record w { owed = w.owed ++ partings now w (bound_by p.changes) }
+
+abbrev pub settled_by : Bool → ℕ → Option Pending → Worker → Worker
+settled_by goes_in now None w = w
+settled_by true now (Some p) w = settled_in now p (with_record p w)
+settled_by false now (Some p) w = record w { pending = None }
+
+-- ---- a group that is in
+
+abbrev pub stored_replies : ℕ → List PlainPacket → List (Option StoredMessage) → List Reply
+stored_replies shard [] messages = []
+stored_replies shard (Publish p ∷ packets) (message ∷ messages) =
+    acked_replies (acknowledged p Reason.success) (of_shard shard message) ++ stored_replies shard packets messages
+stored_replies shard (Publish p ∷ packets) [] = stored_replies shard packets []
+stored_replies shard (Ack kind a ∷ packets) messages = (completed a.id Reason.success).replies ++ stored_replies shard packets messages
+stored_replies shard (other ∷ packets) messages = stored_replies shard packets messages
+
+abbrev pub stored_effects : List PlainPacket → Effects
+stored_effects [] = no_effects
+stored_effects (Publish p ∷ packets) = both_effects (holding p) (stored_effects packets)
+stored_effects (Ack kind a ∷ packets) = both_effects (completed a.id Reason.success).effects (stored_effects packets)
+stored_effects (other ∷ packets) = stored_effects packets
+
+-- its client has the connection still
+abbrev pub has_asked : Asked → Option PlainConnection → Bool
+has_asked a None = false
+has_asked a (Some k) = bytes_eq k.client a.client && (k.incarnation == a.incarnation)
+
+abbrev pub stored_if : Bool → ℕ → Asked → List (Option StoredMessage) → Worker → Worker
+stored_if true shard a messages w =
+    handed_on (Some (item a.connection (Answers (stored_replies shard a.packets messages) (stored_effects a.packets)))) w
+stored_if false shard a messages w = w
+
+-- ---- Emit
+
+abbrev pub is_fresh : Answer → Bool
+is_fresh (Delivers b fresh) = fresh
+is_fresh other = true
+
+-- an item whose connection is bound and, of a pump, since whose record no View came
+abbrev pub item_if : Worker → Option Item → Option Item
+item_if w None = None
+item_if w (Some i) = if is_some (connection_in w i.connection) && is_fresh i.answer then Some i else None
+
+abbrev pub item_at : Worker → ℕ → Option Item
+item_at w place = item_if w (slice_get w.due place)
+
+abbrev pub batch_packets : ℕ → Worker → Issues → Option PlainSession → List PlainPacket
+batch_packets now w b None = []
+batch_packets now w b (Some m) = issued_packets now m w.seen b.entries
+
+abbrev pub answer_packets : ℕ → Worker → PlainConnection → Answer → List PlainPacket
+answer_packets now w k (Answers rs effects) = packets_of (sendable k.packet_limit rs)
+answer_packets now w k (Accepts c client rs) = packets_of (sendable k.packet_limit rs)
+answer_packets now w k (Delivers b fresh) = batch_packets now w b (session_in w k.number)
+
+abbrev pub after_answer : ℕ → Answer → PlainConnection → PlainConnection
+after_answer now (Answers rs effects) k = after_packets effects now k
+after_answer now (Accepts c client rs) k = k
+after_answer now (Delivers b fresh) k = record k { quota = k.quota - quota_used b.entries; served = Some (b.subscription, b.shard) }
+
+abbrev pub noted_answer : ℕ → Worker → PlainConnection → Answer → List Note
+noted_answer now w k (Delivers b fresh) = note k (Delivered b.entries (batch_packets now w b (session_in w k.number))) ∷ []
+noted_answer now w k other = []
+
+abbrev pub without_item : ℕ → List Item → List Item
+without_item place is = take place is ++ drop (place + 1) is
+
+abbrev pub item_emitted : ℕ → ℕ → Item → Option PlainConnection → Worker → Worker
+item_emitted place now i None w = w
+item_emitted place now i (Some k) w =
+    record w {
+      due = without_item place w.due;
+      connections = on_connection k.number (after_answer now i.answer) w.connections;
+      history = w.history ++ noted_answer now w k i.answer;
+    }
+
+abbrev pub emitted_if : ℕ → ℕ → Option Item → Worker → Worker
+emitted_if place now None w = w
+emitted_if place now (Some i) w = item_emitted place now i (connection_in w i.connection) w
+
+-- a packet that owes nothing: its group was refused, or it asked for none
+abbrev pub is_refusal : Outcome → Bool
+is_refusal IsFull = true
+is_refusal AwaitsTooMany = true
+is_refusal Kept = false
+is_refusal Faulted = false
+
+abbrev pub step_if : Bool → Step → Option Step
+step_if true step = Some step
+step_if false step = None
+
+abbrev pub answered_step : Setting → PlainPacket → List Outcome → Option PlainConnection → Option PlainSession → Option Step
+answered_step s packet outcomes (Some k) (Some m) =
+    step_if (list_all is_refusal outcomes && owes_nothing (packet_step s k m packet outcomes)) (packet_step s k m packet outcomes)
+answered_step s packet outcomes k m = None
+
+abbrev pub step_emitted : ℕ → ℕ → Option Step → Worker → Worker
+step_emitted conn now None w = w
+step_emitted conn now (Some step) w = record w { connections = on_connection conn (after_packets step.effects now) w.connections }
+
+abbrev pub resent_for : Profile → ℕ → Worker → Option PlainConnection → Option PlainSession → Option Resent
+resent_for profile now w (Some k) (Some m) = Some (resent profile now m k w.seen)
+resent_for profile now w k m = None
+
+abbrev pub resend_emitted : ℕ → Option PlainConnection → Option Resent → Worker → Worker
+resend_emitted conn (Some k) (Some r) w =
+    record w {
+      connections = on_connection conn (resent_connection r) w.connections;
+      history = w.history ++ note k (SentAgain r.taken r.packets) ∷ [];
+    }
+resend_emitted conn k r w = w
+
+-- ---- Bind, TakeOver and Unbind
+
+-- a CONNECT of this connection that is in and isn't answered
+abbrev pub accepts_on : ℕ → Item → Bool
+accepts_on conn i = (i.connection == conn) && elim (i.answer) as (λ a. Bool) [ Answers rs effects ↦ false | Accepts c client rs ↦ true | Delivers b fresh ↦ false ]
+
+-- one of this client, of another connection
+abbrev pub accepts_client : List ℕ → ℕ → Item → Bool
+accepts_client client conn i =
+    not (i.connection == conn) && elim (i.answer) as (λ a. Bool) [ Answers rs effects ↦ false | Accepts c named rs ↦ bytes_eq named client | Delivers b fresh ↦ false ]
+
+abbrev pub bound_with : ℕ → ConnectFields → ℕ → Option PlainConnection → Option PlainSession → Worker → Worker
+bound_with conn c now None (Some m) w =
+    let k = with_rest m w.seen (bound_connection conn m c now) in
+    record w { connections = w.connections ++ k ∷ []; history = w.history ++ note k (Worker.Bound k.rest k.passed) ∷ [] }
+bound_with conn c now k m w = w
+
+abbrev pub bound_answer : ℕ → ℕ → Answer → Worker → Worker
+bound_answer conn now (Accepts c client rs) w = bound_with conn c now (connection_of client w.connections) (session_of client (sessions_of w)) w
+bound_answer conn now other w = w
+
+-- where the connection isn't bound, nor is its client on another one
+abbrev pub bound_if : ℕ → ℕ → Option Item → Option PlainConnection → Worker → Worker
+bound_if conn now (Some i) None w = bound_answer conn now i.answer w
+bound_if conn now i k w = w
+
+-- an item of another connection
+abbrev pub kept_item : ℕ → Option Item → Option Item
+kept_item conn None = None
+kept_item conn (Some i) = if i.connection == conn then None else Some i
+
+abbrev pub kept_pending : ℕ → Option Pending → Option Pending
+kept_pending conn None = None
+kept_pending conn (Some p) = Some (record p { item = kept_item conn p.item })
+
+-- the end of a connection drops its items, that of the record that pends too
+abbrev pub without_items : ℕ → Worker → Worker
+without_items conn w =
+    record w { due = filter (λ (i : Item). not (i.connection == conn)) w.due; pending = kept_pending conn w.pending }
+
+abbrev pub gone : ℕ → Worker → Worker
+gone conn w = without_items conn (record w { connections = without_connection conn w.connections })
+
+-- the session that it was bound to is owed its end
+abbrev pub unbound : ℕ → Ending → ℕ → Option PlainConnection → Worker → Worker
+unbound conn ending now None w = w
+unbound conn ending now (Some k) w = record (gone conn w) { owed = w.owed ++ (closed_step now (session_in w conn) ending.expiry).changes }
+
+-- a takeover owes nothing: the client goes on with another connection
+abbrev pub may_take_over : ℕ → List Item → Option PlainConnection → Bool
+may_take_over conn is None = false
+may_take_over conn is (Some k) = list_any (accepts_client k.client conn) is
+
+abbrev pub taken_over_if : Bool → ℕ → Worker → Worker
+taken_over_if true conn w = gone conn w
+taken_over_if false conn w = w
+
+-- ---- the moves
+
+module _ (profile : Profile) (config : Config) where
+  abbrev pub worker_step : Worker → WorkerMove → Worker
+  worker_step w (View shard list) = viewed shard list w
+  worker_step w (BeginCommit cause now) = begun_unless w.pending (record_of (setting_of profile config now w) w cause) w
+  worker_step w Commit = committed_by w.pending w
+  worker_step w (Settle goes_in now) = settled_by goes_in now w.pending w
+  worker_step w (Stored shard a messages) = stored_if (has_asked a (connection_in w a.connection)) shard a messages w
+  worker_step w (Emit (OfItem place) now) = emitted_if place now (item_at w place) w
+  worker_step w (Emit (OfPacket conn packet outcomes) now) =
+      step_emitted conn now (answered_step (setting_of profile config now w) packet outcomes (connection_in w conn) (session_in w conn)) w
+  worker_step w (Emit (OfResend conn) now) = resend_emitted conn (connection_in w conn) (resent_for profile now w (connection_in w conn) (session_in w conn)) w
+  worker_step w (Bind conn now) = bound_if conn now (find (accepts_on conn) w.due) (connection_in w conn) w
+  worker_step w (TakeOver conn) = taken_over_if (may_take_over conn w.due (connection_in w conn)) conn w
+  worker_step w (Unbind conn ending now) = unbound conn ending now (connection_in w conn) w
+
+  -- ---- what they put out
+
+  abbrev pub item_outs : ℕ → Worker → Item → Option PlainConnection → List Out
+  item_outs now w i None = []
+  item_outs now w i (Some k) = sent_on k.number (answer_packets now w k i.answer)
+
+  abbrev pub emitted_outs : ℕ → Worker → Option Item → List Out
+  emitted_outs now w None = []
+  emitted_outs now w (Some i) = item_outs now w i (connection_in w i.connection)
+
+  abbrev pub step_outs : Option PlainConnection → Option Step → List Out
+  step_outs (Some k) (Some step) = sent_on k.number (packets_of (sendable k.packet_limit step.replies))
+  step_outs k step = []
+
+  abbrev pub resend_outs : ℕ → Option Resent → List Out
+  resend_outs conn None = []
+  resend_outs conn (Some r) = sent_on conn r.packets
+
+  abbrev pub disconnect : ℕ → PlainPacket
+  disconnect reason = Disconnect (record { reason = reason; props = [] })
+
+  abbrev pub told : ℕ → Option ℕ → List Out
+  told conn None = []
+  told conn (Some reason) = Sent conn (disconnect reason) ∷ []
+
+  abbrev pub ending_outs : ℕ → Ending → Option PlainConnection → List Out
+  ending_outs conn ending None = []
+  ending_outs conn ending (Some k) = told conn ending.reason ++ (if ending.by_server then Closed conn ∷ [] else [])
+
+  abbrev pub takeover_outs : Bool → ℕ → List Out
+  takeover_outs true conn = told conn (takeover_close conn).reason ++ Closed conn ∷ []
+  takeover_outs false conn = []
+
+  abbrev pub worker_outs : Worker → WorkerMove → List Out
+  worker_outs w (Emit (OfItem place) now) = emitted_outs now w (item_at w place)
+  worker_outs w (Emit (OfPacket conn packet outcomes) now) =
+      step_outs (connection_in w conn) (answered_step (setting_of profile config now w) packet outcomes (connection_in w conn) (session_in w conn))
+  worker_outs w (Emit (OfResend conn) now) = resend_outs conn (resent_for profile now w (connection_in w conn) (session_in w conn))
+  worker_outs w (TakeOver conn) = takeover_outs (may_take_over conn w.due (connection_in w conn)) conn
+  worker_outs w (Unbind conn ending now) = ending_outs conn ending (connection_in w conn)
+  worker_outs w other = []
+
+  -- ---- the messages that they acknowledge, each with its shard
+
+  abbrev pub answer_acks : ℕ → Answer → List (ℕ × StoredMessage)
+  answer_acks limit (Answers rs effects) = acked_by (sendable limit rs)
+  answer_acks limit other = []
+
+  abbrev pub item_acks : Worker → Item → Option PlainConnection → List (ℕ × StoredMessage)
+  item_acks w i None = []
+  item_acks w i (Some k) = answer_acks k.packet_limit i.answer
+
+  abbrev pub emitted_acks : Worker → Option Item → List (ℕ × StoredMessage)
+  emitted_acks w None = []
+  emitted_acks w (Some i) = item_acks w i (connection_in w i.connection)
+
+  abbrev pub step_acks : Option PlainConnection → Option Step → List (ℕ × StoredMessage)
+  step_acks (Some k) (Some step) = acked_by (sendable k.packet_limit step.replies)
+  step_acks k step = []
+
+  abbrev pub worker_acks : Worker → WorkerMove → List (ℕ × StoredMessage)
+  worker_acks w (Emit (OfItem place) now) = emitted_acks w (item_at w place)
+  worker_acks w (Emit (OfPacket conn packet outcomes) now) =
+      step_acks (connection_in w conn) (answered_step (setting_of profile config now w) packet outcomes (connection_in w conn) (session_in w conn))
+  worker_acks w other = []
+
+-- ---- a crash
+
+-- No connections, the lists as they are stored, and what a restart owes; of what pended nothing is handed on.
+abbrev pub restarted : List ShardList → ℕ → Worker → Worker
+restarted lists now w =
+    record w { owed = restart_owes now w.committed; connections = []; seen = lists; pending = None; due = [] }
+
+abbrev pub crashed_worker : List ShardList → ℕ → Bool → Worker → Worker
+crashed_worker lists now goes_in w = restarted lists now (settled_by goes_in now w.pending w)

@@ -1,8 +1,0 @@
-use Rattle.turn_terms.specs.CountingLaws.{counts_as_grown, counts_as_others}
-use Rattle.turn_terms.proofs.pump_laws.counting_stays.Goals as goal
-
-pub returns-clause-grown : goal.returns-clause-grown
-returns-clause-grown c = counts_as_grown
-
-pub returns-clause-others : goal.returns-clause-others
-returns-clause-others c = counts_as_others

@@ -1,0 +1,8 @@
+pub mod World
+pub mod Lines
+pub mod Text
+pub mod Running
+pub mod Computing
+pub mod Allowed
+pub mod WorldLaws
+pub mod laws
