@@ -12,7 +12,8 @@ use Rattle.topic_model.specs.StoredMessage.{StoredMessage}
 use Rattle.shard_model.specs.ShardList.{Awaited}
 use Rattle.shard_model.specs.Storing.{Op, Store, Release, Forget, becomes_awaited, is_awaited_as, is_of, triple_of}
 use Rattle.shard_index.specs.Absorbing.{is_new}
-use Rattle.shard_index.specs.Triples.{same_triple, same_triple_equiv}
+use Rattle.shard_model.specs.Storing.{same_triple}
+use Rattle.shard_index.specs.Triples.{same_triple_equiv}
 use Rattle.group_plan.specs.Keeping.{acts_on, awaited_by, awaited_after, all_act}
 use Rattle.group_plan.specs.Counting.{asks_for, asks_of, is_session, asked_count, counted_by, counted_after, is_free, taken_total, total_by}
 use Rattle.group_plan.specs.FilterLaws.{without, none_left, all_left, some_pass, distinct_left, one_or_none, one_taken}

@@ -4,7 +4,8 @@ use Rattle.std.proofs.lemmas.Bool.Decides.{nat_tests}
 use Rattle.std.specs.List.{IsDistinct, AllByRecursion, list_any}
 use Rattle.std.proofs.lemmas.Map.Keys.{IsDistinct-head, IsDistinct-tail, IsDistinct-cons}
 use Rattle.shard_model.specs.ShardList.{Awaited}
-use Rattle.shard_index.specs.Triples.{same_triple, same_triple_is, same_triple_itself}
+use Rattle.shard_model.specs.Storing.{same_triple}
+use Rattle.shard_index.specs.Triples.{same_triple_is, same_triple_itself}
 
 -- the elements that don't pass
 abbrev pub without : {A : Type 0} → (A → Bool) → List A → List A

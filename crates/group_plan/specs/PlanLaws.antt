@@ -7,7 +7,7 @@ use Rattle.std.proofs.lemmas.List.{length-map}
 use Rattle.topic_model.specs.Profile.{Config, whole, one_generation}
 use Rattle.shard_model.specs.ShardList.{Cut, Awaited, ShardList, newest, newest_messages, next_of, oldest_of}
 use Rattle.shard_model.specs.Storing.{Op as PlainOp, kept_ops, store, stores_of}
-use Rattle.shard_model.specs.Capacity.{awaits_too_many, has_stores, is_full, may_drop, is_over, needs_a_cut, passes_the_last, store_size}
+use Rattle.shard_model.specs.Capacity.{awaits_too_many, has_stores, is_full, may_drop, is_retained_out, needs_a_cut, passes_the_last, store_size}
 use Rattle.shard_model.specs.Lists.{IsList, IsRow}
 use Rattle.shard_index.specs.Absorbing.{absorbed_all, all_stand, limits}
 use Rattle.shard_index.specs.Group.{HasRoom, ops_for}
@@ -30,9 +30,9 @@ nothing_kept ops list now none = sym (kept_are_stored ops list list now refl) �
 -- ---- one generation is held
 
 -- the only generation isn't sealed, so that it may not be dropped
-stays : (config : Config) (now : ℕ) (cuts : List Cut) (end : ℕ) → length cuts ≡ 1 → IsRow end cuts → is_over config.retention now (oldest_of cuts).sealed ≡ false
+stays : (config : Config) (now : ℕ) (cuts : List Cut) (end : ℕ) → length cuts ≡ 1 → IsRow end cuts → is_retained_out config.retention now (oldest_of cuts).sealed ≡ false
 stays config now [] end one row = absurd row
-stays config now (cut ∷ []) end one row = ap (is_over config.retention now) row.1
+stays config now (cut ∷ []) end one row = ap (is_retained_out config.retention now) row.1
 stays config now (cut ∷ next ∷ cuts) end one row = absurd (omega arith)
 
 pub full_of_one : (config : Config) (list : ShardList) (kept : List PlainOp) (now : ℕ) → length list.cuts ≡ 1 → IsList list →

@@ -8,16 +8,13 @@ use Rattle.hex.specs.Hex.{decode_of, decode_pairs}
 use Rattle.hex.specs.declared.error.FromHexError.{FromHexError}
 use Rattle.mqtt_props.specs.declared.table.Holder.{Holder}
 use Rattle.mqtt_props.specs.declared.table.Holder.TheVariants.{Connect, Connack, Publish, Puback, Pubrec, Pubrel, Pubcomp, Subscribe, Suback, Unsubscribe, Unsuback, Pingreq, Pingresp, Disconnect, Auth, Will}
+use Rattle.topic_model.specs.Decimals.{is_decimal}
 use Rattle.packet_lines.specs.Lines.{words}
 
 pub data Command : Type 0 where
   Read : List ℕ → Command
   Feed : ℕ → List (List ℕ) → Command
   Props : Holder → List ℕ → Command
-
--- digits without a leading zero
-abbrev pub is_decimal : List ℕ → Bool
-is_decimal word = nat_le 1 (length word) && list_all is_ascii_digit word && ((length word == 1) || not (slice_index word 0 == 48))
 
 -- a limit is a number of four bytes in decimal
 abbrev pub limit_of : List ℕ → Option ℕ

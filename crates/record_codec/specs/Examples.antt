@@ -3,6 +3,7 @@ use Rattle.std.specs.Prelude.{ℕ, ◌+◌, ◌-◌, ◌*◌, ◌==◌, nat_lt, 
 use Rattle.topic_model.specs.Levels.{levels_of}
 use Rattle.topic_model.specs.StoredMessage.{StoredMessage}
 use Rattle.shard_model.specs.Capacity.{store_size}
+use Rattle.session_codec.specs.HexDigits.{hex}
 use Rattle.record_codec.specs.declared.group.Op.{Op}
 use Rattle.record_codec.specs.declared.group.Op.TheVariants.{Store, Release, Forget}
 use Rattle.record_codec.specs.Records.{KeptGroup, KeptOpening, KeptManifest}
@@ -10,19 +11,6 @@ use Rattle.record_codec.specs.Spelling.{spelled_op, spelled_group, spelled_openi
 use Rattle.record_codec.specs.HasSpelling.{is_list, group_has_spelling, manifest_has_spelling}
 use Rattle.record_codec.specs.Reading.{group_in, opening_in, manifest_in}
 use Rattle.record_codec.specs.Computing.{reading}
-
--- ---- bytes by their hexadecimal digits, with spaces between fields
-
-abbrev digit : ℕ → ℕ
-digit c = if nat_lt c 58 then c - 48 else c - 55
-
-abbrev of_digits : Option ℕ → List ℕ → List ℕ
-of_digits first [] = []
-of_digits None (c ∷ rest) = elim (c == 32) [ true ↦ of_digits None rest | false ↦ of_digits (Some (digit c)) rest ]
-of_digits (Some high) (c ∷ rest) = (16 * high + digit c) ∷ of_digits None rest
-
-abbrev hex : List ℕ → List ℕ
-hex digits = of_digits None digits
 
 -- ---- groups
 

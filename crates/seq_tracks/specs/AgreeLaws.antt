@@ -13,7 +13,7 @@ use Rattle.session_model.specs.PlainSession.{PlainSession, issued1_of, issued2_o
 use Rattle.session_model.specs.Unfinished.{kind_is_finished, kind_is_released, is_finished, unfinished}
 use Rattle.session_model.specs.Change.{Acked, Received, Done, Passed, Passes}
 use Rattle.session_model.specs.Acting.{numbers_from}
-use Rattle.session_model.specs.FitsSession.{is_between, passes, suits}
+use Rattle.session_model.specs.FitsSession.{is_between, may_be_passed, suits}
 use Rattle.session_model.specs.Orders.{HasNumbers}
 use Rattle.session_model.specs.laws.DoneLaws.{has, complete_is_done}
 use Rattle.session_model.specs.laws.TrackLaws.{numbers_by, by_number1, by_number2}
@@ -110,14 +110,14 @@ numbers-filter number test p same (e ∷ es) = by (number e.kind) refl (test e) 
   where
     by : (k : Option ℕ) → number e.kind ≡ k → (b : Bool) → test e ≡ b → numbers_by number (filter test es) ≡ filter p (numbers_by number es) →
         numbers_by number (if b then e ∷ filter test es else filter test es) ≡ filter p (with_number k (numbers_by number es))
-    by None is true passes rest = ap (λ k. with_number k (numbers_by number (filter test es))) is ∙ rest
-    by None is false passes rest = rest
-    by (Some n) is true passes rest =
+    by None is true may_be_passed rest = ap (λ k. with_number k (numbers_by number (filter test es))) is ∙ rest
+    by None is false may_be_passed rest = rest
+    by (Some n) is true may_be_passed rest =
         ap (λ k. with_number k (numbers_by number (filter test es))) is
         ∙ ap (λ l. n ∷ l) rest
-        ∙ ap (λ b. if b then n ∷ filter p (numbers_by number es) else filter p (numbers_by number es)) (sym passes ∙ same e n is)
-    by (Some n) is false passes rest =
-        rest ∙ ap (λ b. if b then n ∷ filter p (numbers_by number es) else filter p (numbers_by number es)) (sym passes ∙ same e n is)
+        ∙ ap (λ b. if b then n ∷ filter p (numbers_by number es) else filter p (numbers_by number es)) (sym may_be_passed ∙ same e n is)
+    by (Some n) is false may_be_passed rest =
+        rest ∙ ap (λ b. if b then n ∷ filter p (numbers_by number es) else filter p (numbers_by number es)) (sym may_be_passed ∙ same e n is)
 
 -- those of the first numbers that pass, where none up to a mark does
 behind_mark : (p : ℕ → Bool) (mark last : ℕ) → ((n : ℕ) → 1 ≤ n → n ≤ mark → p n ≡ false) → filter p (numbers_from 1 last) ≡ filter p (numbers_from (mark + 1) (last - mark))

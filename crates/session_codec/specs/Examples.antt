@@ -8,26 +8,11 @@ use Rattle.session_state.specs.declared.change.Effect.{Effect}
 use Rattle.session_state.specs.declared.change.Effect.TheVariants.{Began, Ended, Bound, Parted, Subscribed, Replaced, Unsubscribed, Issued, Acked, Received, Done, Passed}
 use Rattle.seq_tracks.specs.PlainTracks.{PlainTracks}
 use Rattle.session_state.specs.KeptSession.{KeptSession, no_kept_sessions}
+use Rattle.session_codec.specs.HexDigits.{hex}
 use Rattle.session_codec.specs.Spelling.{KeptSnapshot, spelled_changes, spelled_batch, spelled_sweep, spelled_snapshot}
 use Rattle.session_codec.specs.HasSpelling.{have_spelling, has_spelling}
 use Rattle.session_codec.specs.Reading.{changes_in, snapshot_in}
 use Rattle.session_codec.specs.Computing.{decoding}
-
--- ---- bytes by their hexadecimal digits, with spaces between fields
-
-abbrev digit : ℕ → ℕ
-digit c = if nat_lt c 58 then c - 48 else c - 55
-
-abbrev of_digits : Option ℕ → List ℕ → List ℕ
-of_digits first [] = []
-of_digits None (c ∷ rest) = elim (c == 32) [ true ↦ of_digits None rest | false ↦ of_digits (Some (digit c)) rest ]
-of_digits (Some high) (c ∷ rest) = (16 * high + digit c) ∷ of_digits None rest
-
-abbrev hex : List ℕ → List ℕ
-hex digits = of_digits None digits
-
-the_bytes : hex (codes "00FF 1A") ≡ 0x00 ∷ 0xFF ∷ 0x1A ∷ []
-the_bytes = refl
 
 -- ---- each kind of change, of the session of client `a`
 

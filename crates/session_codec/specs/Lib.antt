@@ -21,6 +21,7 @@ pub mod SoundBounds
 pub mod NeedBounds
 pub mod Bounds
 pub mod HeldBounds
+pub mod HexDigits
 pub mod Examples
 pub mod ApartLaws
 pub mod KeepLaws

@@ -1,9 +1,49 @@
 -- How changes act on the sessions of a worker.
-use Rattle.std.specs.Prelude.{ℕ, zero, suc, ◌+◌, ◌-◌, Bool, true, false, not, ◌==◌, if◌then◌else◌, List, [], ◌∷◌, ◌++◌, map, filter, slice_set, Some, None}
+use Rattle.std.specs.Prelude.{
+  ℕ,
+  zero,
+  suc,
+  ◌+◌,
+  ◌-◌,
+  Bool,
+  true,
+  false,
+  not,
+  ◌==◌,
+  if◌then◌else◌,
+  List,
+  [],
+  ◌∷◌,
+  ◌++◌,
+  map,
+  filter,
+  slice_set,
+  Some,
+  None,
+}
 use Rattle.std.specs.Str.{bytes_eq}
 use Rattle.shard_model.specs.declared.sweep.Sweep.{Sweep}
 use Rattle.session_model.specs.PlainSession.{PlainSession, Subscription, Sessions, begun_session}
-use Rattle.session_model.specs.Change.{Change, Effect, Began, Ended, Bound, Parted, Subscribed, Replaced, Unsubscribed, Issued, Acked, Received, Done, Passed, Subscribes, Replaces, Issues, Passes}
+use Rattle.session_model.specs.Change.{
+  Change,
+  Effect,
+  Began,
+  Ended,
+  Bound,
+  Parted,
+  Subscribed,
+  Replaced,
+  Unsubscribed,
+  Issued,
+  Acked,
+  Received,
+  Done,
+  Passed,
+  Subscribes,
+  Replaces,
+  Issues,
+  Passes,
+}
 
 -- ---- one session
 
@@ -18,7 +58,15 @@ subscribed_session s m =
         starts = map (λ (w : Sweep). w.position) s.sweeps;
         sweeps = s.sweeps;
       } ∷ [];
-      versions = m.versions ++ record { number = s.version; subscription = s.subscription; options = s.options; identifier = s.identifier } ∷ [];
+      versions =
+          m.versions
+          ++ record {
+            number = s.version;
+            subscription = s.subscription;
+            options = s.options;
+            identifier =
+                s.identifier;
+          } ∷ [];
     }
 
 -- one of them, if it is the one that is meant; for the others the change isn't computed
@@ -34,16 +82,26 @@ abbrev pub replaced_session : Replaces → PlainSession → PlainSession
 replaced_session r m =
     record m {
       subscriptions = on_subscription r.subscription (λ s. record s { version = r.version }) m.subscriptions;
-      versions = m.versions ++ record { number = r.version; subscription = r.subscription; options = r.options; identifier = r.identifier } ∷ [];
+      versions =
+          m.versions
+          ++ record {
+            number = r.version;
+            subscription = r.subscription;
+            options = r.options;
+            identifier =
+                r.identifier;
+          } ∷ [];
     }
 
 abbrev pub unsubscribed_session : ℕ → PlainSession → PlainSession
-unsubscribed_session number m = record m { subscriptions = on_subscription number (λ s. record s { live = false }) m.subscriptions }
+unsubscribed_session number m = record m
+    { subscriptions = on_subscription number (λ s. record s { live = false }) m.subscriptions }
 
 abbrev pub issued_session : Issues → PlainSession → PlainSession
 issued_session i m =
     record m {
-      subscriptions = on_subscription i.subscription (λ s. record s { sweeps = slice_set s.sweeps i.shard i.sweep }) m.subscriptions;
+      subscriptions = on_subscription i.subscription
+          (λ s. record s { sweeps = slice_set s.sweeps i.shard i.sweep }) m.subscriptions;
       issued = m.issued ++ i.entries;
     }
 
@@ -54,7 +112,8 @@ numbers_from n (suc more) = n ∷ numbers_from (n + 1) more
 
 -- the numbers between the old mark and the new one were passed over, and are done
 abbrev pub received_session : ℕ → PlainSession → PlainSession
-received_session number m = record m { received = number; done = m.done ++ numbers_from (m.received + 1) (number - (m.received + 1)) }
+received_session number m = record m
+    { received = number; done = m.done ++ numbers_from (m.received + 1) (number - (m.received + 1)) }
 
 abbrev pub done_session : ℕ → PlainSession → PlainSession
 done_session number m = record m { done = m.done ++ number ∷ [] }
@@ -90,15 +149,16 @@ abbrev pub without_session : List ℕ → List PlainSession → List PlainSessio
 without_session client ms = filter (λ (m : PlainSession). not (bytes_eq m.client client)) ms
 
 -- a session that begins is the newest; one that ends is gone; each other change is made to the session of its client
-abbrev pub acted : List ℕ → Effect → Sessions → Sessions
-acted client (Began b) s = record { list = s.list ++ begun_session client b.incarnation b.expiry b.window ∷ []; next = b.incarnation + 1 }
-acted client Ended s = record s { list = without_session client s.list }
-acted client effect s = record s { list = on_session client (changed_session effect) s.list }
+abbrev pub act_effect : List ℕ → Effect → Sessions → Sessions
+act_effect client (Began b) s =
+    record { list = s.list ++ begun_session client b.incarnation b.expiry b.window ∷ []; next = b.incarnation + 1 }
+act_effect client Ended s = record s { list = without_session client s.list }
+act_effect client effect s = record s { list = on_session client (changed_session effect) s.list }
 
-abbrev pub act : Sessions → Change → Sessions
-act sessions c = acted c.client c.effect sessions
+abbrev pub act_one : Sessions → Change → Sessions
+act_one sessions c = act_effect c.client c.effect sessions
 
 -- after several changes, in order
 abbrev pub act_all : Sessions → List Change → Sessions
 act_all sessions [] = sessions
-act_all sessions (c ∷ changes) = act_all (act sessions c) changes
+act_all sessions (c ∷ changes) = act_all (act_one sessions c) changes

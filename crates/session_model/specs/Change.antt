@@ -14,7 +14,8 @@ pub record Parts : Type 0 where
   pub expiry : ℕ
   pub moment : ℕ
 
--- a subscription begins: its number and version, its options and Subscription Identifier (0 for none), its filter, and where it
+-- a subscription begins: its number and version, its options and Subscription Identifier (0 for none), its filter, and
+-- where it
 -- begins in each shard
 pub record Subscribes : Type 0 where
   pub subscription : ℕ

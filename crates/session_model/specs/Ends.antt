@@ -1,5 +1,25 @@
 -- When sessions are over, and what a restart owes them.
-use Rattle.std.specs.Prelude.{ℕ, ◌+◌, ◌*◌, ◌-◌, ◌^◌, Bool, false, ◌&&◌, not, ◌==◌, nat_le, min, if◌then◌else◌, List, [], ◌∷◌, Option, Some, None}
+use Rattle.std.specs.Prelude.{
+  ℕ,
+  ◌+◌,
+  ◌*◌,
+  ◌-◌,
+  ◌^◌,
+  Bool,
+  false,
+  ◌&&◌,
+  not,
+  ◌==◌,
+  nat_le,
+  min,
+  if◌then◌else◌,
+  List,
+  [],
+  ◌∷◌,
+  Option,
+  Some,
+  None,
+}
 use Rattle.std.specs.List.{flat_map}
 use Rattle.session_model.specs.PlainSession.{PlainSession, Sessions}
 use Rattle.session_model.specs.Change.{Change, Ended, Parted, change}
@@ -25,7 +45,8 @@ and_ended expiry client = if expiry == 0 then change client Ended ∷ [] else []
 
 -- The end of a connection, with the interval that then counts: the session parts, and ends where that is 0 (MQTT 4.1).
 abbrev pub part_changes : List ℕ → ℕ → ℕ → List Change
-part_changes client expiry now = change client (Parted (record { expiry = expiry; moment = moment_of now })) ∷ and_ended expiry client
+part_changes client expiry now = change client (Parted (record { expiry = expiry; moment = moment_of now }))
+    ∷ and_ended expiry client
 
 abbrev pub owed_to : ℕ → Option ℕ → PlainSession → List Change
 owed_to now None m = part_changes m.client m.expiry now

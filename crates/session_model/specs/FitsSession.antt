@@ -1,15 +1,72 @@
 -- When a change fits the sessions of a worker.
-use Rattle.std.specs.Prelude.{ℕ, ◌+◌, ◌-◌, ◌^◌, Bool, true, false, ◌&&◌, ◌||◌, not, ◌==◌, nat_le, nat_lt, List, [], ◌∷◌, length, filter, slice_get, Option, Some, None, is_some, is_none}
+use Rattle.std.specs.Prelude.{
+  ℕ,
+  ◌+◌,
+  ◌-◌,
+  ◌^◌,
+  Bool,
+  true,
+  false,
+  ◌&&◌,
+  ◌||◌,
+  not,
+  ◌==◌,
+  nat_le,
+  nat_lt,
+  List,
+  [],
+  ◌∷◌,
+  length,
+  filter,
+  slice_get,
+  Option,
+  Some,
+  None,
+  is_some,
+  is_none,
+}
 use Rattle.std.specs.List.{list_all, sum_by}
 use Rattle.topic_model.specs.Profile.{Profile}
 use Rattle.topic_model.specs.Levels.{text_of_levels}
 use Rattle.topic_model.specs.Texts.{filter_refusal}
 use Rattle.session_model.specs.declared.entry.Entry.{Entry}
 use Rattle.session_model.specs.Entry.{numbers1, numbers2}
-use Rattle.session_model.specs.PlainSession.{PlainSession, Subscription, Sessions, session_of, subscription_numbered, next_subscription, next_version, issued1_of, issued2_of, in_use, is_done, left_of}
+use Rattle.session_model.specs.PlainSession.{
+  PlainSession,
+  Subscription,
+  Sessions,
+  session_of,
+  subscription_numbered,
+  next_subscription,
+  next_version,
+  issued1_of,
+  issued2_of,
+  in_use,
+  is_done,
+  left_of,
+}
 use Rattle.session_model.specs.Unfinished.{kept_subscriptions}
-use Rattle.session_model.specs.Change.{Change, Effect, Began, Ended, Bound, Parted, Subscribed, Replaced, Unsubscribed, Issued, Acked, Received, Done, Passed, Subscribes, Replaces, Issues, Passes}
-use Rattle.session_model.specs.Acting.{act}
+use Rattle.session_model.specs.Change.{
+  Change,
+  Effect,
+  Began,
+  Ended,
+  Bound,
+  Parted,
+  Subscribed,
+  Replaced,
+  Unsubscribed,
+  Issued,
+  Acked,
+  Received,
+  Done,
+  Passed,
+  Subscribes,
+  Replaces,
+  Issues,
+  Passes,
+}
+use Rattle.session_model.specs.Acting.{act_one}
 
 -- the greatest number of eight bytes, which spells "none" where a moment stands, and of four
 abbrev pub greatest : ℕ
@@ -31,11 +88,12 @@ is_live m number = if_live (subscription_numbered number m)
 abbrev pub is_next_version : PlainSession → ℕ → Bool
 is_next_version m version = (version == next_version m) && nat_lt version greatest_of_four
 
-abbrev pub subscribes : PlainSession → Subscribes → Bool
-subscribes m s = (s.subscription == next_subscription m) && (nat_lt s.subscription greatest_of_four && is_next_version m s.version)
+abbrev pub may_be_subscribed : PlainSession → Subscribes → Bool
+may_be_subscribed m s = (s.subscription == next_subscription m)
+    && (nat_lt s.subscription greatest_of_four && is_next_version m s.version)
 
-abbrev pub replaces : PlainSession → Replaces → Bool
-replaces m r = is_live m r.subscription && is_next_version m r.version
+abbrev pub may_be_replaced : PlainSession → Replaces → Bool
+may_be_replaced m r = is_live m r.subscription && is_next_version m r.version
 
 -- numbers that go on from one
 abbrev pub go_on : ℕ → List ℕ → Bool
@@ -57,16 +115,18 @@ has_sweep shard (Some s) = is_some (slice_get s.sweeps shard)
 
 abbrev pub is_entry_of : PlainSession → Issues → Entry → Bool
 is_entry_of m i e =
-    (e.subscription == i.subscription) && ((e.shard == i.shard) && has_version e.version (subscription_numbered i.subscription m))
+    (e.subscription == i.subscription)
+    && ((e.shard == i.shard) && has_version e.version (subscription_numbered i.subscription m))
 
 -- a track has so many numbers left
 abbrev pub has_left : ℕ → List ℕ → Bool
 has_left issued numbers = nat_le (length numbers) (left_of issued)
 
--- some entries, of the subscription's present version in one of its shards, with ascending offsets, and numbers that go on, none of them
+-- some entries, of the subscription's present version in one of its shards, with ascending offsets, and numbers that go
+-- on, none of them
 -- the greatest of eight bytes
-abbrev pub issues : PlainSession → Issues → Bool
-issues m i =
+abbrev pub may_be_issued : PlainSession → Issues → Bool
+may_be_issued m i =
     is_live m i.subscription
     && (has_sweep i.shard (subscription_numbered i.subscription m)
     && (nat_lt 0 (length i.entries)
@@ -79,9 +139,10 @@ issues m i =
 abbrev pub is_between : ℕ → ℕ → ℕ → Bool
 is_between mark last number = nat_lt mark number && nat_le number last
 
-abbrev pub passes : PlainSession → Passes → Bool
-passes m p =
-    ((p.track == 1) && is_between m.acked (issued1_of m) p.number) || ((p.track == 2) && is_between m.received (issued2_of m) p.number)
+abbrev pub may_be_passed : PlainSession → Passes → Bool
+may_be_passed m p =
+    ((p.track == 1) && is_between m.acked (issued1_of m) p.number)
+    || ((p.track == 2) && is_between m.received (issued2_of m) p.number)
 
 -- of a session that is held
 abbrev pub suits : PlainSession → Effect → Bool
@@ -89,22 +150,22 @@ suits m (Began b) = false
 suits m Ended = true
 suits m (Bound expiry) = true
 suits m (Parted p) = nat_lt p.moment greatest
-suits m (Subscribed s) = subscribes m s
-suits m (Replaced r) = replaces m r
+suits m (Subscribed s) = may_be_subscribed m s
+suits m (Replaced r) = may_be_replaced m r
 suits m (Unsubscribed number) = is_live m number
-suits m (Issued i) = issues m i
+suits m (Issued i) = may_be_issued m i
 suits m (Acked number) = is_between m.acked (issued1_of m) number
 suits m (Received number) = is_between m.received (issued2_of m) number
 suits m (Done number) = nat_le number m.received && (nat_lt 0 number && not (is_done m number))
-suits m (Passed p) = passes m p
+suits m (Passed p) = may_be_passed m p
 
-abbrev pub begins : Sessions → Effect → Bool
-begins s (Began b) = (b.incarnation == s.next) && nat_lt b.incarnation greatest
-begins s other = false
+abbrev pub may_begin : Sessions → Effect → Bool
+may_begin s (Began b) = (b.incarnation == s.next) && nat_lt b.incarnation greatest
+may_begin s other = false
 
 -- a session that begins isn't held yet; each other change is of one that is
 abbrev pub finds : Sessions → Effect → Option PlainSession → Bool
-finds s effect None = begins s effect
+finds s effect None = may_begin s effect
 finds s effect (Some m) = suits m effect
 
 -- ---- the limits afterwards
@@ -125,7 +186,8 @@ has_window profile m = (m.window == profile.window) || (profile.widens && is_wid
 
 -- each filter that a session keeps is one (MQTT 4.7)
 abbrev pub has_filters : PlainSession → Bool
-has_filters m = list_all (λ (s : Subscription). is_none (filter_refusal (text_of_levels s.filter))) (kept_subscriptions m)
+has_filters m = list_all (λ (s : Subscription). is_none (filter_refusal (text_of_levels s.filter)))
+    (kept_subscriptions m)
 
 abbrev pub is_within : Profile → PlainSession → Bool
 is_within profile m =
@@ -144,9 +206,9 @@ are_within profile s =
 
 -- ---- a change, and changes one after the other
 
-abbrev pub fits : Profile → Sessions → Change → Bool
-fits profile s c = finds s c.effect (session_of c.client s) && are_within profile (act s c)
+abbrev pub change_fits : Profile → Sessions → Change → Bool
+change_fits profile s c = finds s c.effect (session_of c.client s) && are_within profile (act_one s c)
 
-abbrev pub fit_all : Profile → Sessions → List Change → Bool
-fit_all profile s [] = true
-fit_all profile s (c ∷ changes) = fits profile s c && fit_all profile (act s c) changes
+abbrev pub changes_fit : Profile → Sessions → List Change → Bool
+changes_fit profile s [] = true
+changes_fit profile s (c ∷ changes) = change_fits profile s c && changes_fit profile (act_one s c) changes

@@ -46,4 +46,5 @@ kept_versions m = filter (λ (v : Version). is_present m v || is_used m v) m.ver
 -- and a subscription while it is live, or a kept version is one of its
 abbrev pub kept_subscriptions : PlainSession → List Subscription
 kept_subscriptions m =
-    filter (λ (s : Subscription). s.live || list_any (λ (v : Version). v.subscription == s.number) (kept_versions m)) m.subscriptions
+    filter (λ (s : Subscription). s.live || list_any (λ (v : Version). v.subscription == s.number) (kept_versions m))
+    m.subscriptions

@@ -6,8 +6,8 @@ ghost use Rattle.session_model.specs.Entry.{id_of};
 ghost use Rattle.session_model.specs.Unfinished.{unfinished};
 ghost use Rattle.session_model.specs.Orders.{HasNumbers};
 ghost use Rattle.session_model.specs.Change.{Change, Effect, change};
-ghost use Rattle.session_model.specs.Acting.{act, act_all, changed_session};
-ghost use Rattle.session_model.specs.FitsSession.{fit_all, suits};
+ghost use Rattle.session_model.specs.Acting.{act_one, act_all, changed_session};
+ghost use Rattle.session_model.specs.FitsSession.{changes_fit, suits};
 
 /// A law: changes act, and fit, one list after the other: all of two lists act as the first and then the second, and
 /// fit where the first fit and the second fit what the first made.
@@ -15,8 +15,8 @@ pub fn changes_compose()
     ensures act { (sessions : Sessions) (first more : List Change) →
         act_all sessions (first ++ more) ≡ act_all (act_all sessions first) more }
     ensures fit { (profile : Profile) (sessions : Sessions) (first more : List Change) →
-        fit_all profile sessions (first ++ more)
-        ≡ (fit_all profile sessions first && fit_all profile (act_all sessions first) more) }
+        changes_fit profile sessions (first ++ more)
+        ≡ (changes_fit profile sessions first && changes_fit profile (act_all sessions first) more) }
 {}
 
 /// A law: what a session calls complete is the greatest number up to which all numbers of track 2 are done: each of
@@ -47,5 +47,5 @@ pub fn acting_keeps_order()
 pub fn others_stay()
     ensures { (sessions : Sessions) (client other : List ℕ) (effect : Effect) →
         bytes_eq client other ≡ false →
-        session_of other (act sessions (change client effect)) ≡ session_of other sessions }
+        session_of other (act_one sessions (change client effect)) ≡ session_of other sessions }
 {}

@@ -5,7 +5,7 @@ use Rattle.topic_model.specs.Profile.{Profile}
 use Rattle.topic_model.specs.StoredMessage.{StoredMessage}
 use Rattle.topic_model.specs.Matching.{matches}
 use Rattle.shard_model.specs.ShardList.{ShardList, Cut}
-use Rattle.shard_model.specs.Streams.{Streamed, Held, held_generations}
+use Rattle.shard_model.specs.Streams.{StreamMessage, HeldGeneration, held_generations}
 use Rattle.session_model.specs.declared.entry.Entry.{Entry}
 use Rattle.session_model.specs.declared.entry.Kind.{Kind}
 use Rattle.session_model.specs.declared.entry.Version.{Version}
@@ -16,21 +16,21 @@ use Rattle.turn_model.specs.Batch.{entry_of, count1, count2}
 -- ---- the messages
 
 -- of the batch's stream, from its first offset up to the one behind its last, and matched by the filter
-abbrev pub is_in_batch : List (List ℕ) → Batch → Streamed → Bool
+abbrev pub is_in_batch : List (List ℕ) → Batch → StreamMessage → Bool
 is_in_batch filter b s =
     (s.stream == b.stream) && ((nat_le b.from s.message.offset && nat_lt s.message.offset b.to) && matches filter s.message.topic)
 
-abbrev pub messages_of_batch : List (List ℕ) → Batch → List Streamed → List StoredMessage
-messages_of_batch wish b ss = map (λ (s : Streamed). s.message) (filter (is_in_batch wish b) ss)
+abbrev pub messages_of_batch : List (List ℕ) → Batch → List StreamMessage → List StoredMessage
+messages_of_batch wish b ss = map (λ (s : StreamMessage). s.message) (filter (is_in_batch wish b) ss)
 
 -- those of a generation, if it is the batch's
-abbrev pub messages_if : Bool → List (List ℕ) → Batch → Held → List StoredMessage
+abbrev pub messages_if : Bool → List (List ℕ) → Batch → HeldGeneration → List StoredMessage
 messages_if true wish b g = messages_of_batch wish b g.messages
 messages_if false wish b g = []
 
 -- the messages of a batch in its shard's list, none where its generation is gone
 abbrev pub messages_again : Profile → ShardList → List (List ℕ) → Batch → List StoredMessage
-messages_again profile list wish b = flat_map (λ (g : Held). messages_if (g.cut.number == b.generation) wish b g) (held_generations profile list)
+messages_again profile list wish b = flat_map (λ (g : HeldGeneration). messages_if (g.cut.number == b.generation) wish b g) (held_generations profile list)
 
 -- the list holds the generation with this number
 abbrev pub holds : ShardList → ℕ → Bool

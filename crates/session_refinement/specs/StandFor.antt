@@ -7,7 +7,7 @@ use Rattle.topic_model.specs.StoredMessage.{StoredMessage}
 use Rattle.shard_model.specs.declared.sweep.Sweep.{Sweep}
 use Rattle.shard_model.specs.ShardList.{ShardList, newest, next_of}
 use Rattle.shard_model.specs.Wanted.{wanted}
-use Rattle.shard_model.specs.laws.PlaceLaws.{HasPlace}
+use Rattle.topic_model.specs.Places.{HasPlace}
 use Rattle.shard_model.specs.SweepOrder.{is_issued_by, is_in_order}
 use Rattle.session_model.specs.declared.entry.Entry.{Entry}
 use Rattle.session_model.specs.declared.entry.Version.{Version}

@@ -2,11 +2,11 @@ ghost use Rattle.std.specs.Prelude.{◌≡◌, ◌++◌, Bool, List, ℕ, [], So
 ghost use Rattle.topic_model.specs.Profile.{Profile};
 ghost use Rattle.topic_model.specs.StoredMessage.{StoredMessage};
 ghost use Rattle.shard_model.specs.ShardList.{ShardList};
-ghost use Rattle.shard_model.specs.laws.PlaceLaws.{HasPlace};
+ghost use Rattle.topic_model.specs.Places.{HasPlace};
 ghost use Rattle.session_model.specs.declared.entry.Entry.{Entry};
 ghost use Rattle.session_model.specs.PlainSession.{PlainSession, Sessions, begun_session, session_of};
-ghost use Rattle.session_model.specs.Acting.{changed_session, act};
-ghost use Rattle.session_model.specs.FitsSession.{suits, finds, fits, is_within, are_within};
+ghost use Rattle.session_model.specs.Acting.{changed_session, act_one};
+ghost use Rattle.session_model.specs.FitsSession.{suits, finds, change_fits, is_within, are_within};
 ghost use Rattle.session_state.specs.declared.change.Change.{Change};
 ghost use Rattle.session_state.specs.declared.change.Effect.{Effect};
 ghost use Rattle.session_state.specs.declared.change.Effect.TheVariants.{Issued};
@@ -57,7 +57,7 @@ pub fn changes_are_kept()
         (c : Change) → SessionsKeep kept plain →
         finds plain (plain_effect entries c.effect) (session_of c.client plain) ≡ true →
         AreIssuedAs plain c entries →
-        SessionsKeep (kept_acted c kept) (act plain (plain_change entries c)) }
+        SessionsKeep (kept_acted c kept) (act_one plain (plain_change entries c)) }
 {}
 
 /// A law: a kept session that stands for a plain one over lists in order goes on to do so through each change that suits
@@ -75,7 +75,7 @@ pub fn changes_go_on_to_stand()
         AreLists lists → SessionsStandFor profile lists kept plain →
         finds plain (plain_effect entries c.effect) (session_of c.client plain) ≡ true →
         AreOver profile lists plain c entries →
-        SessionsStandFor profile lists (kept_acted c kept) (act plain (plain_change entries c)) }
+        SessionsStandFor profile lists (kept_acted c kept) (act_one plain (plain_change entries c)) }
     ensures keep { (profile : Profile) (lists : List ShardList) (kept : KeptSessions)
         (plain : Sessions) → SessionsStandFor profile lists kept plain →
         SessionsKeep kept plain }
@@ -111,12 +111,12 @@ pub fn kept_sessions_tell_what_fits()
     ensures fits { (profile : Profile) (kept : KeptSessions) (plain : Sessions)
         (entries : List Entry) (c : Change) → is_no_batch c.effect ≡ true →
         SessionsKeep kept plain →
-        kept_fits profile kept c ≡ fits profile plain (plain_change entries c) }
+        kept_fits profile kept c ≡ change_fits profile plain (plain_change entries c) }
     ensures batch { (profile : Profile) (sessions : KeptSessions) (plain : Sessions)
         (entries : List Entry) (client : List ℕ) (i : Issuing) → SessionsKeep sessions plain →
         ((k : KeptSession) (m : PlainSession) → kept.session_of client sessions ≡ Some k →
         session_of client plain ≡ Some m → IsReadyFor k m i entries) →
-        fits profile plain (plain_change entries (record { client = client; effect = Issued i }))
+        change_fits profile plain (plain_change entries (record { client = client; effect = Issued i }))
         ≡ true →
         kept_fits profile sessions (record { client = client; effect = Issued i }) ≡ true }
 {}

@@ -3,7 +3,7 @@ use Rattle.std.proofs.Common.{◌≡◌, ◌≢◌, ℕ, suc, ◌+◌, ◌<◌, 
 use Rattle.std.proofs.lemmas.Bool.{not-true}
 use Rattle.std.proofs.lemmas.Option.{none-some, same_Some, slice_get-get_or}
 use Rattle.shard_model.specs.ShardList.{Awaited}
-use Rattle.shard_index.specs.Triples.{same_triple}
+use Rattle.shard_model.specs.Storing.{same_triple}
 use Rattle.std.proofs.Math.Bool.{and-false}
 use Rattle.shard_fold.specs.Fold.{are_same}
 

@@ -12,7 +12,8 @@ use Rattle.topic_model.specs.StoredMessage.{StoredMessage}
 use Rattle.shard_model.specs.ShardList.{Awaited, ShardList}
 use Rattle.shard_model.specs.Storing.{Store as PlainStore, act_if, acts, awaits, becomes_awaited, is_awaited_as, is_of, triple_of}
 use Rattle.shard_index.specs.Absorbing.{absorbed, absorbed_all, has_place, may_add}
-use Rattle.shard_index.specs.Triples.{are_distinct, are_new_behind, same_triple, same_triple_is, same_triple_itself}
+use Rattle.shard_model.specs.Storing.{same_triple}
+use Rattle.shard_index.specs.Triples.{are_distinct, are_new_behind, same_triple_is, same_triple_itself}
 use Rattle.record_codec.specs.Records.{index_op, index_ops}
 use Rattle.record_codec.specs.declared.group.Op.{Op}
 use Rattle.record_codec.specs.declared.group.Op.TheVariants.{Store, Release, Forget}

@@ -8,7 +8,8 @@ use Rattle.topic_name.specs.declared.mounting.What.{What}
 use Rattle.topic_name.specs.declared.mounting.What.TheVariants.{Format, Shards, Workers, Number}
 use Rattle.shard_model.specs.ShardList.{Cut, Awaited, ShardList, next_of}
 use Rattle.shard_index.specs.KeptIndex.{cut_of}
-use Rattle.shard_index.specs.Triples.{are_distinct, same_triple}
+use Rattle.shard_model.specs.Storing.{same_triple}
+use Rattle.shard_index.specs.Triples.{are_distinct}
 use Rattle.shard_index.specs.Absorbing.{absorbed_all, all_stand, begun}
 use Rattle.record_codec.specs.declared.formats.TheConstants.{MANIFEST_FORMAT}
 use Rattle.record_codec.specs.Records.{KeptGroup, KeptManifest, KeptOpening, index_ops}

@@ -14,7 +14,8 @@ use Rattle.shard_index.specs.declared.op.IndexOp.TheVariants.{Rotate}
 use Rattle.shard_index.specs.KeptIndex.{KeptIndex, cut_of, list_of}
 use Rattle.shard_index.specs.Absorbing.{absorbed, begun, begun_if, may_begin}
 use Rattle.shard_index.specs.Sound.{newest_bytes}
-use Rattle.shard_index.specs.Triples.{are_distinct, same_triple}
+use Rattle.shard_model.specs.Storing.{same_triple}
+use Rattle.shard_index.specs.Triples.{are_distinct}
 use Rattle.record_codec.specs.Records.{KeptOpening}
 use Rattle.record_codec.specs.Sizes.{awaited_size}
 use Rattle.record_codec.specs.SizeLaws.{opening_sized}

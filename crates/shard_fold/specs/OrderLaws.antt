@@ -13,7 +13,8 @@ use Rattle.shard_index.specs.declared.op.IndexOp.TheVariants.{Rotate}
 use Rattle.shard_index.specs.KeptIndex.{cut_of}
 use Rattle.shard_index.specs.Absorbing.{absorbed, absorbed_all, all_stand, begun, begun_if, may_add, may_begin}
 use Rattle.shard_index.specs.GrowLaws.{absorbed_all_grows, absorbed_grows}
-use Rattle.shard_index.specs.Triples.{are_distinct, same_triple}
+use Rattle.shard_model.specs.Storing.{same_triple}
+use Rattle.shard_index.specs.Triples.{are_distinct}
 use Rattle.record_codec.specs.declared.group.Op.{Op}
 use Rattle.record_codec.specs.declared.group.Op.TheVariants.{Store, Release, Forget}
 use Rattle.record_codec.specs.Records.{KeptGroup, KeptOpening, index_op, index_ops}

@@ -4,7 +4,7 @@ ghost use Rattle.std.specs.List.{IsDistinct};
 ghost use Rattle.shard_model.specs.ShardList.{newest};
 ghost use Rattle.shard_index.specs.Absorbing.{sealed_last};
 ghost use Rattle.shard_index.specs.KeptIndex.{list_of};
-ghost use Rattle.shard_index.specs.Triples.{same_triple};
+ghost use Rattle.shard_model.specs.Storing.{same_triple};
 ghost use Rattle.record_codec.specs.Reading.{opening_in};
 ghost use Rattle.shard_fold.specs.Fold.{are_same, first_opening, is_opening_of, opened, opened_behind, opens, opens_behind, unsealed};
 ghost use Rattle.shard_fold.specs.Giving.{Gives};

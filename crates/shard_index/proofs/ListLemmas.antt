@@ -8,7 +8,8 @@ use Rattle.topic_name.specs.declared.descriptor.Descriptor.{Descriptor}
 use Rattle.shard_model.specs.ShardList.{Awaited, newest_of}
 use Rattle.shard_index.specs.KeptIndex.{cut_of}
 use Rattle.shard_index.specs.Absorbing.{sealed_last}
-use Rattle.shard_index.specs.Triples.{same_triple, same_triple_equiv, same_triple_is}
+use Rattle.shard_model.specs.Storing.{same_triple}
+use Rattle.shard_index.specs.Triples.{same_triple_equiv, same_triple_is}
 
 -- the newest generation stands last
 pub newest_at : (cuts : List Descriptor) (other : Descriptor) → 0 < length cuts → cut_of (get_or cuts (length cuts - 1) other) ≡ newest_of (map cut_of cuts)

@@ -3,7 +3,7 @@ use Rattle.std.specs.Prelude.{ℕ, ◌≡◌, ◌+◌, ◌-◌, ◌^◌, ◌==�
 use Rattle.std.specs.List.{list_all, list_any}
 use Rattle.topic_name.specs.declared.descriptor.Descriptor.{Descriptor}
 use Rattle.topic_name.specs.KeptMessage.{KeptMessage}
-use Rattle.topic_model.specs.Profile.{Profile, whole, unlearned}
+use Rattle.topic_model.specs.Profile.{Profile, whole, without_learning}
 use Rattle.topic_model.specs.StoredMessage.{StoredMessage}
 use Rattle.shard_model.specs.ShardList.{Cut, Awaited, ShardList, newest, next_of, floor_of, oldest_of}
 use Rattle.shard_model.specs.Storing.{Store, Release as ToRelease, Forget as ToForget, acts, act, act_if, becomes_awaited, is_of, is_awaited_as}
@@ -15,7 +15,7 @@ use Rattle.shard_index.specs.KeptIndex.{KeptIndex, cut_of, list_of}
 
 -- the limits of a generation, of which all topics have one stream
 abbrev pub limits : Profile
-limits = unlearned whole
+limits = without_learning whole
 
 -- ---- which operations can stand
 

@@ -8,10 +8,7 @@ use Rattle.std.specs.Hash.{HashWrites}
 use Rattle.std.proofs.lemmas.Bool.{and_parts}
 use Rattle.std.proofs.lemmas.Slice.Eq.{bytes_eq-Decides}
 use Rattle.shard_model.specs.ShardList.{Awaited}
-use Rattle.shard_model.specs.Storing.{is_of, is_awaited_as}
-
-abbrev pub same_triple : Awaited → Awaited → Bool
-same_triple a b = is_awaited_as a.publisher a.incarnation a.id b
+use Rattle.shard_model.specs.Storing.{is_of, same_triple}
 
 pub same_triple_is : (a b : Awaited) → same_triple a b ≡ true → a ≡ b
 same_triple_is a b h =

@@ -1,6 +1,7 @@
 ghost use Rattle.std.specs.Prelude.{◌≡◌, IfOk};
 ghost use Rattle.std.specs.Cmp.{partial_equiv_from_equiv};
-ghost use Rattle.shard_index.specs.Triples.{same_triple, same_triple_equiv, same_triple_fed, triple_writes};
+ghost use Rattle.shard_model.specs.Storing.{same_triple};
+ghost use Rattle.shard_index.specs.Triples.{same_triple_equiv, same_triple_fed, triple_writes};
 
 use std::alloc::AllocError;
 use std::hash::{Hash, Hasher};

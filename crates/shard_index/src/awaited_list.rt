@@ -3,7 +3,8 @@ ghost use Rattle.std.specs.List.{list_any, IsDistinct};
 ghost use Rattle.std.specs.Option.{option_copied};
 ghost use Rattle.shard_model.specs.Storing.{is_awaited_as, is_of};
 ghost use Rattle.shard_index.specs.Absorbing.{is_new};
-ghost use Rattle.shard_index.specs.Triples.{are_distinct, same_triple};
+ghost use Rattle.shard_model.specs.Storing.{same_triple};
+ghost use Rattle.shard_index.specs.Triples.{are_distinct};
 
 use crate::identifiers::{Identifier, Identifiers};
 use crate::lists::{count_of, forget_in, has_of, release_in};

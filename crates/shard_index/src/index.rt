@@ -5,7 +5,7 @@ ghost use Rattle.shard_model.specs.ShardList.{floor_of, next_of, newest};
 ghost use Rattle.shard_model.specs.Storing.{awaits, is_of};
 ghost use Rattle.shard_model.specs.Lists.{IsList};
 ghost use Rattle.shard_model.specs.Capacity.{store_size};
-ghost use Rattle.shard_index.specs.Triples.{same_triple};
+ghost use Rattle.shard_model.specs.Storing.{same_triple};
 ghost use Rattle.shard_index.specs.KeptIndex.{cut_of, kept_at, list_of};
 ghost use Rattle.shard_index.specs.Sound.{newest_bytes};
 ghost use Rattle.shard_index.specs.SoundLaws.{may_be_next, takes_one_more};

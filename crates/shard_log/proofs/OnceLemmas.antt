@@ -8,7 +8,8 @@ use Rattle.std.proofs.lemmas.Slice.Eq.{bytes_eq-Decides}
 use Rattle.topic_model.specs.StoredMessage.{StoredMessage}
 use Rattle.shard_model.specs.ShardList.{Awaited, ShardList}
 use Rattle.shard_model.specs.Storing.{Op, Store, Release, Forget, act_if, acts, awaits, becomes_awaited, is_awaited_as, is_message_of, is_of, store, triple_of}
-use Rattle.shard_index.specs.Triples.{same_triple, same_triple_is}
+use Rattle.shard_model.specs.Storing.{same_triple}
+use Rattle.shard_index.specs.Triples.{same_triple_is}
 use Rattle.shard_log.specs.StoredOnce.{Append, Appended, AreEventsOf, Call, ComesBy, ComesOf, Event, IsEventOf, IsRun, IsStoredOnce, Left, Mount, Tick, is_awaited, list_after, once_if, times_after, times_by, times_in_group}
 
 -- ---- a message

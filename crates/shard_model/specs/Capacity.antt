@@ -1,5 +1,27 @@
 -- What a generation has room for, when a group needs a new one, and when a shard is full.
-use Rattle.std.specs.Prelude.{ℕ, ◌+◌, ◌-◌, ◌^◌, Bool, true, false, ◌&&◌, ◌||◌, not, nat_le, nat_lt, List, [], ◌∷◌, ◌++◌, length, drop, Option, Some, None}
+use Rattle.std.specs.Prelude.{
+  ℕ,
+  ◌+◌,
+  ◌-◌,
+  ◌^◌,
+  Bool,
+  true,
+  false,
+  ◌&&◌,
+  ◌||◌,
+  not,
+  nat_le,
+  nat_lt,
+  List,
+  [],
+  ◌∷◌,
+  ◌++◌,
+  length,
+  drop,
+  Option,
+  Some,
+  None,
+}
 use Rattle.std.specs.List.{sum_by}
 use Rattle.topic_model.specs.Profile.{Profile, Config}
 use Rattle.topic_model.specs.Levels.{text_of_levels}
@@ -16,11 +38,13 @@ abbrev pub expiry_size : Option ℕ → ℕ
 expiry_size None = 0
 expiry_size (Some seconds) = 4
 
--- How many bytes a message takes in a group: a tag, its publisher, the incarnation, the identifier, the QoS, the stamp and the expiry,
+-- How many bytes a message takes in a group: a tag, its publisher, the incarnation, the identifier, the QoS, the stamp
+-- and the expiry,
 -- the text of its topic, its properties and its payload, texts with two bytes of length in front and blobs with four.
 abbrev pub store_size : StoredMessage → ℕ
 store_size m =
-    1 + (2 + length m.publisher) + 8 + 2 + 1 + 8 + expiry_size m.expiry + (2 + length (text_of_levels m.topic)) + (4 + length m.props) + (4 + length m.payload)
+    1 + (2 + length m.publisher) + 8 + 2 + 1 + 8 + expiry_size m.expiry + (2 + length (text_of_levels m.topic)) +
+    (4 + length m.props) + (4 + length m.payload)
 
 -- ---- a generation
 
@@ -42,11 +66,13 @@ are_few profile ms = nat_le (1 + length ms) profile.streams && nat_le (2 + level
 
 -- the same as `learns_within`, without learning anything where the messages are few
 abbrev pub learns_few_or_within : Profile → Cut → List StoredMessage → Bool
-learns_few_or_within profile cut ms = elim (are_few profile ms) as (λ few. Bool) [ true ↦ true | false ↦ learns_within profile cut ms ]
+learns_few_or_within profile cut ms =
+    elim (are_few profile ms) as (λ few. Bool) [ true ↦ true | false ↦ learns_within profile cut ms ]
 
 abbrev pub fits_in : Profile → Cut → List StoredMessage → Bool
 fits_in profile cut ms =
-    nat_le (length ms) cut.messages && (nat_le (sum_by store_size ms) profile.generation_bytes && learns_few_or_within profile cut ms)
+    nat_le (length ms) cut.messages
+    && (nat_le (sum_by store_size ms) profile.generation_bytes && learns_few_or_within profile cut ms)
 
 -- whether the newest generation has room for the messages of operations that are kept, by all four limits
 abbrev pub fits : Profile → ShardList → List Op → Bool
@@ -59,12 +85,12 @@ needs_a_cut profile list ops = has_stores ops && not (fits profile list ops)
 -- ---- dropping the oldest
 
 -- sealed at least the retention ago
-abbrev pub is_over : ℕ → ℕ → Option ℕ → Bool
-is_over retention now None = false
-is_over retention now (Some sealed) = nat_le (sealed + retention) now
+abbrev pub is_retained_out : ℕ → ℕ → Option ℕ → Bool
+is_retained_out retention now None = false
+is_retained_out retention now (Some sealed) = nat_le (sealed + retention) now
 
 abbrev pub may_drop : Config → ShardList → ℕ → Bool
-may_drop config list now = is_over config.retention now (oldest_of list.cuts).sealed
+may_drop config list now = is_retained_out config.retention now (oldest_of list.cuts).sealed
 
 abbrev pub holds_all : Profile → ShardList → Bool
 holds_all profile list = nat_le profile.generations (length list.cuts)
@@ -78,11 +104,13 @@ passes_the_last needs list ops =
 
 -- ---- a full shard
 
--- The operations are kept ones. They need a new generation, all that may be held are held, and the oldest may not be dropped yet; or
+-- The operations are kept ones. They need a new generation, all that may be held are held, and the oldest may not be
+-- dropped yet; or
 -- they would pass the last values.
 abbrev pub is_full_if : Bool → Profile → Config → ShardList → List Op → ℕ → Bool
 is_full_if needs profile config list ops now =
-    (needs && (holds_all profile list && not (may_drop config list now))) || (has_stores ops && passes_the_last needs list ops)
+    (needs && (holds_all profile list && not (may_drop config list now)))
+    || (has_stores ops && passes_the_last needs list ops)
 
 abbrev pub is_full : Profile → Config → ShardList → List Op → ℕ → Bool
 is_full profile config list ops now = is_full_if (needs_a_cut profile list ops) profile config list ops now
@@ -111,4 +139,5 @@ without_oldest (cut ∷ other ∷ cuts) = other ∷ cuts
 -- the oldest generation is dropped, with its messages; the only one stays
 abbrev pub dropped : ShardList → ShardList
 dropped list =
-    let cuts = without_oldest list.cuts in record list { cuts = cuts; messages = drop ((oldest_of cuts).first - floor_of list) list.messages }
+    let cuts = without_oldest list.cuts in
+    record list { cuts = cuts; messages = drop ((oldest_of cuts).first - floor_of list) list.messages }

@@ -8,7 +8,16 @@ use Rattle.shard_model.specs.ShardList.{ShardList, opening_list, floor_of, messa
 use Rattle.shard_model.specs.Storing.{Op, Store, Release, Forget, store, kept_ops}
 use Rattle.shard_model.specs.LearnedPath.{Token, Plus, patterns_of, nodes_of, learned_path, varying}
 use Rattle.shard_model.specs.Streams.{topics_of}
-use Rattle.shard_model.specs.Capacity.{store_size, fits, needs_a_cut, may_drop, is_full, awaits_too_many, rotated, dropped}
+use Rattle.shard_model.specs.Capacity.{
+  store_size,
+  fits,
+  needs_a_cut,
+  may_drop,
+  is_full,
+  awaits_too_many,
+  rotated,
+  dropped,
+}
 use Rattle.shard_model.specs.SweepOrder.{Run, starting_sweep, next_run, sweep_after, is_issued_by, is_in_order}
 
 -- a message of a publisher, of QoS 1 or 2
@@ -45,19 +54,23 @@ stored_once = refl
 kept_once : length (kept_ops (opening_list default_config) twice) ≡ 1
 kept_once = refl
 
-stored_again : length (store (opening_list default_config) (Store (said 2 7 (codes "t")) ∷ Release (codes "p") 1 7 ∷ Store (said 2 7 (codes "t")) ∷ []) 5).messages ≡ 2
+stored_again : length
+    (store (opening_list default_config)
+    (Store (said 2 7 (codes "t")) ∷ Release (codes "p") 1 7 ∷ Store (said 2 7 (codes "t")) ∷ []) 5).messages ≡ 2
 stored_again = refl
 
 -- of another incarnation nothing is released, and what takes nothing away isn't kept
 another_incarnation : kept_ops (opening_list default_config) (Release (codes "p") 2 7 ∷ Forget (codes "p") 1 ∷ []) ≡ []
 another_incarnation = refl
 
-forgotten : (store (opening_list default_config) (Store (said 2 7 (codes "t")) ∷ Store (said 2 9 (codes "t")) ∷ Forget (codes "p") 1 ∷ []) 5).awaited ≡ []
+forgotten : (store (opening_list default_config)
+    (Store (said 2 7 (codes "t")) ∷ Store (said 2 9 (codes "t")) ∷ Forget (codes "p") 1 ∷ []) 5).awaited ≡ []
 forgotten = refl
 
 -- ---- learned paths
 
--- with a threshold of two below the first level, the third token and each later one go by `+`, and the first ones keep their own
+-- with a threshold of two below the first level, the third token and each later one go by `+`, and the first ones keep
+-- their own
 abbrev learns_two : Config
 learns_two = record default_config { below = 2 }
 
@@ -71,14 +84,16 @@ abbrev topics_of_five : List (List (List ℕ))
 topics_of_five = topics_of list_of_five.messages
 
 three_patterns : patterns_of 100 2 topics_of_five
-    ≡ (Token (codes "a") ∷ Token (codes "1") ∷ []) ∷ (Token (codes "a") ∷ Token (codes "2") ∷ []) ∷ (Token (codes "a") ∷ Plus ∷ []) ∷ []
+    ≡ (Token (codes "a") ∷ Token (codes "1") ∷ []) ∷ (Token (codes "a") ∷ Token (codes "2") ∷ [])
+    ∷ (Token (codes "a") ∷ Plus ∷ []) ∷ []
 three_patterns = refl
 
 -- the empty one, `a`, and three below it
 five_nodes : length (nodes_of (patterns_of 100 2 topics_of_five)) ≡ 5
 five_nodes = refl
 
-a_varying_token : varying (learned_path 100 2 topics_of_five (levels_of (codes "a/9"))) (levels_of (codes "a/9")) ≡ codes "9" ∷ []
+a_varying_token : varying (learned_path 100 2 topics_of_five (levels_of (codes "a/9"))) (levels_of (codes "a/9"))
+    ≡ codes "9" ∷ []
 a_varying_token = refl
 
 -- ---- sweeps
@@ -141,7 +156,9 @@ in_order : is_in_order whole list_of_five 0 third ≡ true
 in_order = refl
 
 -- where topics aren't learned there is one stream, and the run is in the order of offsets
-in_one_stream : run_offsets (next_run (record whole { learns = false }) (levels_of (codes "a/+")) 0 list_of_five at_the_front 64) ≡ 0 ∷ 1 ∷ 2 ∷ 3 ∷ 4 ∷ []
+in_one_stream : run_offsets
+    (next_run (record whole { learns = false }) (levels_of (codes "a/+")) 0 list_of_five at_the_front 64) ≡ 0 ∷ 1 ∷ 2
+    ∷ 3 ∷ 4 ∷ []
 in_one_stream = refl
 
 -- ---- generations
@@ -169,7 +186,9 @@ offsets_go_on = refl
 through_the_first : run_offsets (next_run whole (levels_of (codes "#")) 0 two at_the_front 64) ≡ 0 ∷ []
 through_the_first = refl
 
-through_the_second : run_offsets (next_run whole (levels_of (codes "#")) 0 two (record { generation = 0; base = 0; target = 1; stream = 0; position = 1 }) 64) ≡ 1 ∷ []
+through_the_second : run_offsets
+    (next_run whole (levels_of (codes "#")) 0 two
+    (record { generation = 0; base = 0; target = 1; stream = 0; position = 1 }) 64) ≡ 1 ∷ []
 through_the_second = refl
 
 -- sealed at 10, with a retention of 1000
@@ -208,21 +227,28 @@ room_from_then = refl
 a_size : store_size (said 1 0 (codes "a/1")) ≡ 38
 a_size = refl
 
-bytes_fit : fits (record whole { generation_bytes = 76 }) (store (opening_list default_config) (says (codes "a/1") ∷ []) 0) (says (codes "a/2") ∷ []) ≡ true
+bytes_fit : fits (record whole { generation_bytes = 76 })
+    (store (opening_list default_config) (says (codes "a/1") ∷ []) 0) (says (codes "a/2") ∷ []) ≡ true
 bytes_fit = refl
 
-one_byte_more : fits (record whole { generation_bytes = 75 }) (store (opening_list default_config) (says (codes "a/1") ∷ []) 0) (says (codes "a/2") ∷ []) ≡ false
+one_byte_more : fits (record whole { generation_bytes = 75 })
+    (store (opening_list default_config) (says (codes "a/1") ∷ []) 0) (says (codes "a/2") ∷ []) ≡ false
 one_byte_more = refl
 
-two_streams : fits (record whole { streams = 1 }) (store (opening_list default_config) (says (codes "a/1") ∷ []) 0) (says (codes "a/2") ∷ []) ≡ false
+two_streams : fits (record whole { streams = 1 }) (store (opening_list default_config) (says (codes "a/1") ∷ []) 0)
+    (says (codes "a/2") ∷ []) ≡ false
 two_streams = refl
 
 -- four nodes: the empty one, `a`, `a/1`, `a/2`
-four_nodes : fits (record whole { nodes = 4 }) (store (opening_list default_config) (says (codes "a/1") ∷ []) 0) (says (codes "a/2") ∷ []) ≡ true
+four_nodes : fits (record whole { nodes = 4 }) (store (opening_list default_config) (says (codes "a/1") ∷ []) 0)
+    (says (codes "a/2") ∷ []) ≡ true
 four_nodes = refl
 
-three_nodes : fits (record whole { nodes = 3 }) (store (opening_list default_config) (says (codes "a/1") ∷ []) 0) (says (codes "a/2") ∷ []) ≡ false
+three_nodes : fits (record whole { nodes = 3 }) (store (opening_list default_config) (says (codes "a/1") ∷ []) 0)
+    (says (codes "a/2") ∷ []) ≡ false
 three_nodes = refl
 
-one_awaited : awaits_too_many (record whole { awaited = 1 }) (store (opening_list default_config) (Store (said 2 7 (codes "t")) ∷ []) 0) (Store (said 2 9 (codes "t")) ∷ []) 0 ≡ true
+one_awaited : awaits_too_many (record whole { awaited = 1 })
+    (store (opening_list default_config) (Store (said 2 7 (codes "t")) ∷ []) 0) (Store (said 2 9 (codes "t")) ∷ []) 0
+    ≡ true
 one_awaited = refl

@@ -1,10 +1,7 @@
 -- When one list of a shard has grown from another: what both hold is the same.
 use Rattle.std.specs.Prelude.{ℕ, ◌≤◌, ◌<◌, ◌≡◌, List, slice_get, Some}
+use Rattle.topic_model.specs.Places.{HasPlace}
 use Rattle.shard_model.specs.ShardList.{Cut, ShardList, floor_of, next_of, message_at, newest, oldest_of}
-
--- a cut stands among others
-abbrev pub HasCut : List Cut → Cut → Type 0
-HasCut cuts cut = (k : ℕ) × (slice_get cuts k ≡ Some cut)
 
 -- the same generation, which may have been sealed since
 pub record IsSame (a b : Cut) : Type 0 where
@@ -21,8 +18,10 @@ pub record HasGrown (list later : ShardList) : Type 0 where
   pub ends : next_of list ≤ next_of later
   pub oldest : (oldest_of list.cuts).number ≤ (oldest_of later.cuts).number
   -- equal messages at each offset that both hold
-  pub messages : (offset : ℕ) → floor_of later ≤ offset → offset < next_of list → message_at later offset ≡ message_at list offset
+  pub messages : (offset : ℕ) → floor_of later ≤ offset → offset < next_of list →
+      message_at later offset ≡ message_at list offset
   -- each generation that isn't gone is still there
-  pub kept : (cut : Cut) → HasCut list.cuts cut → (oldest_of later.cuts).number ≤ cut.number → (other : Cut) × HasCut later.cuts other × IsSame cut other
+  pub kept : (cut : Cut) → HasPlace list.cuts cut → (oldest_of later.cuts).number ≤ cut.number → (other : Cut)
+      × HasPlace later.cuts other × IsSame cut other
   -- new generations begin at or behind the old end
-  pub added : (cut : Cut) → HasCut later.cuts cut → (newest list).number < cut.number → next_of list ≤ cut.first
+  pub added : (cut : Cut) → HasPlace later.cuts cut → (newest list).number < cut.number → next_of list ≤ cut.first

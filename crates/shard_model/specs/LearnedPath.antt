@@ -1,5 +1,23 @@
--- What a generation learns of its topics: the path of each topic from those before it, and the patterns that its topics have.
-use Rattle.std.specs.Prelude.{ℕ, suc, ◌+◌, Bool, true, false, ◌&&◌, nat_le, if◌then◌else◌, List, [], ◌∷◌, ◌++◌, Option, Some, None}
+-- What a generation learns of its topics: the path of each topic from those before it, and the patterns that its topics
+-- have.
+use Rattle.std.specs.Prelude.{
+  ℕ,
+  suc,
+  ◌+◌,
+  Bool,
+  true,
+  false,
+  ◌&&◌,
+  nat_le,
+  if◌then◌else◌,
+  List,
+  [],
+  ◌∷◌,
+  ◌++◌,
+  Option,
+  Some,
+  None,
+}
 use Rattle.std.specs.List.{list_any}
 use Rattle.std.specs.Str.{bytes_eq}
 
@@ -56,7 +74,8 @@ token_count (Plus ∷ edges) = token_count edges
 
 -- ---- the path of a topic
 
--- A token's edge: the one that is there; else `+` if it is there, or if the node has as many tokens as its threshold; else a new one.
+-- A token's edge: the one that is there; else `+` if it is there, or if the node has as many tokens as its threshold;
+-- else a new one.
 abbrev pub edge_for : ℕ → List ℕ → List Level → Level
 edge_for threshold token edges =
     if has_edge (Token token) edges then Token token
@@ -73,7 +92,8 @@ threshold top below (x ∷ node) = below
 abbrev pub path_from : ℕ → ℕ → List Path → Path → Tokens → Path
 path_from top below paths node [] = []
 path_from top below paths node (token ∷ tokens) =
-    let edge = edge_for (threshold top below node) token (edges_at node paths []) in edge ∷ path_from top below paths (node ++ edge ∷ []) tokens
+    let edge = edge_for (threshold top below node) token (edges_at node paths []) in
+    edge ∷ path_from top below paths (node ++ edge ∷ []) tokens
 
 -- the paths of topics, each over those before it
 abbrev pub paths_of : ℕ → ℕ → List Path → List Tokens → List Path
@@ -104,9 +124,10 @@ patterns_of top below topics = distinct [] (paths_of top below [] topics)
 abbrev pub learn_topic : ℕ → ℕ → List Path → Tokens → List Path
 learn_topic top below patterns topic = with_path (path_from top below patterns [] topic) patterns
 
-abbrev pub learned : ℕ → ℕ → List Path → List Tokens → List Path
-learned top below patterns [] = patterns
-learned top below patterns (topic ∷ topics) = learned top below (learn_topic top below patterns topic) topics
+abbrev pub patterns_after : ℕ → ℕ → List Path → List Tokens → List Path
+patterns_after top below patterns [] = patterns
+patterns_after top below patterns (topic ∷ topics) =
+    patterns_after top below (learn_topic top below patterns topic) topics
 
 -- the number of a path among patterns
 abbrev pub number_from : ℕ → Path → List Path → Option ℕ

@@ -19,4 +19,5 @@ IsRow end (cut ∷ next ∷ cuts) = IsBefore cut next × IsRow end (next ∷ cut
 pub record IsList (list : ShardList) : Type 0 where
   pub cuts : IsRow (next_of list) list.cuts
   -- the offsets of the messages are consecutive from the floor on
-  pub offsets : map (λ (m : StoredMessage). m.offset) list.messages ≡ counted_from (floor_of list) (length list.messages)
+  pub offsets : map (λ (m : StoredMessage). m.offset) list.messages
+      ≡ counted_from (floor_of list) (length list.messages)

@@ -3,7 +3,21 @@ use Rattle.std.specs.Prelude.{◌≡◌, true, false, List, [], ◌∷◌, lengt
 use Rattle.topic_model.specs.Profile.{whole}
 use Rattle.shard_model.specs.ShardList.{floor_of, next_of}
 use Rattle.shard_model.specs.Storing.{Op}
-use Rattle.shard_model.specs.ShardMoves.{Shard, ShardMove, Begin, Store, BeginCut, Rotate, BeginDrop, Drop, Settle, Show, opening_shard, shard_run, crashed_shard}
+use Rattle.shard_model.specs.ShardMoves.{
+  Shard,
+  ShardMove,
+  Begin,
+  Store,
+  BeginCut,
+  Rotate,
+  BeginDrop,
+  Drop,
+  Settle,
+  Show,
+  opening_shard,
+  shard_run,
+  crashed_shard,
+}
 use Rattle.shard_model.specs.Examples.{says, one_each}
 
 abbrev one_op : List Op
@@ -55,8 +69,11 @@ dropped_then : floor_of (ran (Begin one_op 5 ∷ Store ∷ BeginCut 6 ∷ Rotate
 dropped_then = refl
 
 -- a crash while a drop pends
-crashed_in : floor_of (crashed_shard one_each true (ran (Begin one_op 5 ∷ Store ∷ BeginCut 6 ∷ Rotate ∷ BeginDrop 1006 ∷ []))).shown ≡ 1
+crashed_in : floor_of
+    (crashed_shard one_each true (ran (Begin one_op 5 ∷ Store ∷ BeginCut 6 ∷ Rotate ∷ BeginDrop 1006 ∷ []))).shown ≡ 1
 crashed_in = refl
 
-crashed_out : length (crashed_shard one_each false (ran (Begin one_op 5 ∷ Store ∷ BeginCut 6 ∷ Rotate ∷ BeginDrop 1006 ∷ []))).shown.cuts ≡ 2
+crashed_out : length
+    (crashed_shard one_each false (ran (Begin one_op 5 ∷ Store ∷ BeginCut 6 ∷ Rotate ∷ BeginDrop 1006 ∷ []))).shown.cuts
+    ≡ 2
 crashed_out = refl

@@ -1,13 +1,48 @@
--- What a shard does when it is called: an append, a drop at a Tick, and a reading of bodies. Each call is a list of moves and an outcome.
-use Rattle.std.specs.Prelude.{ℕ, zero, suc, Bool, true, false, ◌&&◌, nat_le, nat_lt, List, [], ◌∷◌, ◌++◌, length, find, if◌then◌else◌, Option, Some, None}
+-- What a shard does when it is called: an append, a drop at a Tick, and a reading of bodies. Each call is a list of
+-- moves and an outcome.
+use Rattle.std.specs.Prelude.{
+  ℕ,
+  zero,
+  suc,
+  Bool,
+  true,
+  false,
+  ◌&&◌,
+  nat_le,
+  nat_lt,
+  List,
+  [],
+  ◌∷◌,
+  ◌++◌,
+  length,
+  find,
+  if◌then◌else◌,
+  Option,
+  Some,
+  None,
+}
 use Rattle.topic_model.specs.Profile.{Profile, Config}
 use Rattle.shard_model.specs.ShardList.{ShardList, next_of, floor_of}
 use Rattle.shard_model.specs.Storing.{Op, kept_ops}
 use Rattle.shard_model.specs.Capacity.{needs_a_cut, may_drop, holds_all, is_full, awaits_too_many}
-use Rattle.shard_model.specs.ShardMoves.{Shard, ShardMove, Begin, Store, BeginCut, Rotate, BeginDrop, Drop, Settle, Show, is_nothing, shard_step}
+use Rattle.shard_model.specs.ShardMoves.{
+  Shard,
+  ShardMove,
+  Begin,
+  Store,
+  BeginCut,
+  Rotate,
+  BeginDrop,
+  Drop,
+  Settle,
+  Show,
+  pends_nothing,
+  shard_step,
+}
 use Rattle.shard_model.specs.Choices.{Fates, Drawn, draw}
 
--- A group was stored: the offset of its first message, and the next one behind it. Or the shard is full, or would await too many
+-- A group was stored: the offset of its first message, and the next one behind it. Or the shard is full, or would await
+-- too many
 -- identifiers, and nothing has changed. Or a device call failed.
 pub data Appended : Type 0 where
   AppendedAt : ℕ → ℕ → Appended
@@ -37,12 +72,12 @@ abbrev pub call_of : Shard → Fates → Call
 call_of s fates = record { shard = s; moves = []; fates = fates; faulted = false }
 
 module _ (profile : Profile) (config : Config) where
-  abbrev pub push : ShardMove → Call → Call
-  push move c = record c { shard = shard_step profile config c.shard move; moves = c.moves ++ move ∷ [] }
+  abbrev pub push_move : ShardMove → Call → Call
+  push_move move c = record c { shard = shard_step profile config c.shard move; moves = c.moves ++ move ∷ [] }
 
-  abbrev pub push_all : List ShardMove → Call → Call
-  push_all [] c = c
-  push_all (move ∷ moves) c = push_all moves (push move c)
+  abbrev pub push_moves : List ShardMove → Call → Call
+  push_moves [] c = c
+  push_moves (move ∷ moves) c = push_moves moves (push_move move c)
 
   -- ---- a change: begun, and then in and shown, or in doubt
 
@@ -50,16 +85,17 @@ module _ (profile : Profile) (config : Config) where
   moves_unless true begun done = begun ∷ []
   moves_unless false begun done = begun ∷ done ∷ Show ∷ []
 
-  abbrev pub tried_with : ShardMove → ShardMove → Drawn → Call → Call
-  tried_with begun done drawn c = record (push_all (moves_unless drawn.fails begun done) c) { fates = drawn.fates; faulted = drawn.fails }
+  abbrev pub attempt_with : ShardMove → ShardMove → Drawn → Call → Call
+  attempt_with begun done drawn c = record (push_moves (moves_unless drawn.fails begun done) c)
+      { fates = drawn.fates; faulted = drawn.fails }
 
-  abbrev pub tried_if : Bool → ShardMove → ShardMove → Call → Call
-  tried_if true begun done c = tried_with begun done (draw c.fates) c
-  tried_if false begun done c = c
+  abbrev pub attempt_if : Bool → ShardMove → ShardMove → Call → Call
+  attempt_if true begun done c = attempt_with begun done (draw c.fates) c
+  attempt_if false begun done c = c
 
   -- where it is due, and nothing failed before
-  abbrev pub tried : Bool → ShardMove → ShardMove → Call → Call
-  tried due begun done c = tried_if (if c.faulted then false else due) begun done c
+  abbrev pub attempt : Bool → ShardMove → ShardMove → Call → Call
+  attempt due begun done c = attempt_if (if c.faulted then false else due) begun done c
 
   -- ---- what is in doubt is settled first
 
@@ -68,52 +104,56 @@ module _ (profile : Profile) (config : Config) where
   settling false true = Settle true ∷ Show ∷ []
   settling false false = Settle false ∷ []
 
-  abbrev pub settled_with : Drawn → Call → Call
-  settled_with drawn c = record (push_all (settling drawn.fails drawn.goes_in) c) { fates = drawn.fates; faulted = drawn.fails }
+  abbrev pub call_settled_with : Drawn → Call → Call
+  call_settled_with drawn c = record (push_moves (settling drawn.fails drawn.goes_in) c)
+      { fates = drawn.fates; faulted = drawn.fails }
 
-  abbrev pub settled_if : Bool → Call → Call
-  settled_if true c = c
-  settled_if false c = settled_with (draw c.fates) c
+  abbrev pub call_settled_if : Bool → Call → Call
+  call_settled_if true c = c
+  call_settled_if false c = call_settled_with (draw c.fates) c
 
-  abbrev pub settled_first : Call → Call
-  settled_first c = settled_if (is_nothing c.shard.pending) c
+  abbrev pub call_settled : Call → Call
+  call_settled c = call_settled_if (pends_nothing c.shard.pending) c
 
   -- ---- an append
 
-  -- the oldest generation is dropped where one more can't be held, a new one is begun where the group needs it, and then the group goes in
+  -- the oldest generation is dropped where one more can't be held, a new one is begun where the group needs it, and
+  -- then the group goes in
   abbrev pub made_room : List Op → ℕ → Call → Call
-  made_room kept now c = tried (needs_a_cut profile c.shard.stored kept && holds_all profile c.shard.stored) (BeginDrop now) Drop c
+  made_room kept now c = attempt (needs_a_cut profile c.shard.stored kept && holds_all profile c.shard.stored)
+      (BeginDrop now) Drop c
 
   abbrev pub with_cut : List Op → ℕ → Call → Call
-  with_cut kept now c = tried (needs_a_cut profile c.shard.stored kept) (BeginCut now) Rotate c
+  with_cut kept now c = attempt (needs_a_cut profile c.shard.stored kept) (BeginCut now) Rotate c
 
   abbrev pub stored_in : List Op → ℕ → Call → Call
-  stored_in ops now c = tried true (Begin ops now) Store (with_cut (kept_ops c.shard.stored ops) now (made_room (kept_ops c.shard.stored ops) now c))
+  stored_in ops now c = attempt true (Begin ops now) Store
+      (with_cut (kept_ops c.shard.stored ops) now (made_room (kept_ops c.shard.stored ops) now c))
 
   abbrev pub outcome_unless : Bool → ℕ → Call → Appended
   outcome_unless true first c = AppendFault
   outcome_unless false first c = AppendedAt first (next_of c.shard.stored)
 
-  abbrev pub ended : ℕ → Call → AppendCall
-  ended first c = record { moves = c.moves; outcome = outcome_unless c.faulted first c; fates = c.fates }
+  abbrev pub append_ended : ℕ → Call → AppendCall
+  append_ended first c = record { moves = c.moves; outcome = outcome_unless c.faulted first c; fates = c.fates }
 
-  abbrev pub refused : Appended → Call → AppendCall
-  refused outcome c = record { moves = c.moves; outcome = outcome; fates = c.fates }
+  abbrev pub append_refused : Appended → Call → AppendCall
+  append_refused outcome c = record { moves = c.moves; outcome = outcome; fates = c.fates }
 
   -- a group of which nothing is kept writes no record: no device call is made for it
   abbrev pub stored_without_record : List Op → ℕ → Call → Call
-  stored_without_record ops now c = push_all (Begin ops now ∷ Store ∷ Show ∷ []) c
+  stored_without_record ops now c = push_moves (Begin ops now ∷ Store ∷ Show ∷ []) c
 
   -- by the operations that are kept: whether the shard is full is looked at before what would be awaited
   abbrev pub appended_kept : List Op → List Op → ℕ → Call → AppendCall
-  appended_kept ops [] now c = ended (next_of c.shard.stored) (stored_without_record ops now c)
+  appended_kept ops [] now c = append_ended (next_of c.shard.stored) (stored_without_record ops now c)
   appended_kept ops (op ∷ kept) now c =
-      if is_full profile config c.shard.stored (op ∷ kept) now then refused Full c
-      else if awaits_too_many profile c.shard.stored (op ∷ kept) now then refused AwaitFull c
-      else ended (next_of c.shard.stored) (stored_in ops now c)
+      if is_full profile config c.shard.stored (op ∷ kept) now then append_refused Full c
+      else if awaits_too_many profile c.shard.stored (op ∷ kept) now then append_refused AwaitFull c
+      else append_ended (next_of c.shard.stored) (stored_in ops now c)
 
   abbrev pub appended_unless : Bool → List Op → ℕ → Call → AppendCall
-  appended_unless true ops now c = refused AppendFault c
+  appended_unless true ops now c = append_refused AppendFault c
   appended_unless false ops now c = appended_kept ops (kept_ops c.shard.stored ops) now c
 
   abbrev pub appended_after : List Op → ℕ → Call → AppendCall
@@ -121,13 +161,14 @@ module _ (profile : Profile) (config : Config) where
 
   -- the moves of an append of a group at a moment, and its outcome
   abbrev pub append_call : Shard → List Op → ℕ → Fates → AppendCall
-  append_call s ops now fates = appended_after ops now (settled_first (call_of s fates))
+  append_call s ops now fates = appended_after ops now (call_settled (call_of s fates))
 
   -- ---- a Tick
 
   abbrev pub dropped_within : ℕ → ℕ → Call → Call
   dropped_within zero now c = c
-  dropped_within (suc more) now c = dropped_within more now (tried (may_drop config c.shard.stored now) (BeginDrop now) Drop c)
+  dropped_within (suc more) now c = dropped_within more now
+      (attempt (may_drop config c.shard.stored now) (BeginDrop now) Drop c)
 
   abbrev pub dropped_after : ℕ → Call → Call
   dropped_after now c = dropped_within (length c.shard.stored.cuts) now c
@@ -137,7 +178,7 @@ module _ (profile : Profile) (config : Config) where
 
   -- the moves of a Tick: the oldest generation is dropped as long as it was sealed at least the retention ago
   abbrev pub tick_call : Shard → ℕ → Fates → DropCall
-  tick_call s now fates = drop_ended (dropped_after now (settled_first (call_of s fates)))
+  tick_call s now fates = drop_ended (dropped_after now (call_settled (call_of s fates)))
 
 -- ---- a reading of bodies
 

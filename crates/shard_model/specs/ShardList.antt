@@ -3,7 +3,8 @@ use Rattle.std.specs.Prelude.{ℕ, ◌+◌, ◌-◌, nat_lt, if◌then◌else◌
 use Rattle.topic_model.specs.StoredMessage.{StoredMessage}
 use Rattle.topic_model.specs.Profile.{Config}
 
--- A generation: its number, the offset that it begins at, the thresholds of its learned topics, how many messages it takes, and the
+-- A generation: its number, the offset that it begins at, the thresholds of its learned topics, how many messages it
+-- takes, and the
 -- moment at which it was sealed. Only the newest isn't sealed.
 pub record Cut : Type 0 where
   pub number : ℕ
@@ -19,7 +20,8 @@ pub record Awaited : Type 0 where
   pub incarnation : ℕ
   pub id : ℕ
 
--- The generations, oldest first, with numbers that go up by one; the messages, whose offsets are consecutive from the first
+-- The generations, oldest first, with numbers that go up by one; the messages, whose offsets are consecutive from the
+-- first
 -- generation's on; and what is awaited, in the order in which it became so.
 pub record ShardList : Type 0 where
   pub cuts : List Cut
@@ -31,7 +33,15 @@ pub record ShardList : Type 0 where
 -- a generation that begins with the configuration's values
 abbrev pub new_cut : Config → ℕ → ℕ → Cut
 new_cut config number first =
-    record { number = number; first = first; top = config.top; below = config.below; messages = config.messages; sealed = None }
+    record {
+      number = number;
+      first = first;
+      top = config.top;
+      below = config.below;
+      messages =
+          config.messages;
+      sealed = None;
+    }
 
 -- the newest one; where there is none, which no shard's list is, an empty one of number 0
 abbrev pub no_cut : Cut
@@ -69,7 +79,8 @@ first_message (m ∷ ms) = Some m
 
 -- the message with an offset, none below the floor and from the next one on
 abbrev pub message_at : ShardList → ℕ → Option StoredMessage
-message_at list offset = if nat_lt offset (floor_of list) then None else first_message (drop (offset - floor_of list) list.messages)
+message_at list offset = if nat_lt offset (floor_of list) then None
+    else first_message (drop (offset - floor_of list) list.messages)
 
 -- the messages at or past an offset, which is not below the floor
 abbrev pub messages_from : ShardList → ℕ → List StoredMessage

@@ -19,6 +19,10 @@ is_of publisher incarnation a = bytes_eq a.publisher publisher && (a.incarnation
 abbrev pub is_awaited_as : List ℕ → ℕ → ℕ → Awaited → Bool
 is_awaited_as publisher incarnation id a = is_of publisher incarnation a && (a.id == id)
 
+-- two awaited identifiers are the same one
+abbrev pub same_triple : Awaited → Awaited → Bool
+same_triple a b = is_awaited_as a.publisher a.incarnation a.id b
+
 abbrev pub awaits : ShardList → List ℕ → ℕ → ℕ → Bool
 awaits list publisher incarnation id = list_any (is_awaited_as publisher incarnation id) list.awaited
 
@@ -28,7 +32,8 @@ triple_of m = record { publisher = m.publisher; incarnation = m.incarnation; id 
 
 -- a message of QoS 2 that was published so
 abbrev pub is_message_of : Awaited → StoredMessage → Bool
-is_message_of a m = bytes_eq m.publisher a.publisher && ((m.incarnation == a.incarnation) && ((m.qos == 2) && (m.id == a.id)))
+is_message_of a m = bytes_eq m.publisher a.publisher
+    && ((m.incarnation == a.incarnation) && ((m.qos == 2) && (m.id == a.id)))
 
 -- a message of QoS 2 with an identifier makes that identifier awaited (MQTT 4.3.3)
 abbrev pub becomes_awaited : StoredMessage → List Awaited
@@ -37,7 +42,8 @@ becomes_awaited m =
 
 -- ---- one operation
 
--- Whether an operation is kept: a Release or Forget that takes nothing away isn't, nor a Store of QoS 2 whose identifier is awaited.
+-- Whether an operation is kept: a Release or Forget that takes nothing away isn't, nor a Store of QoS 2 whose
+-- identifier is awaited.
 abbrev pub acts : ShardList → Op → Bool
 acts list (Store m) = not ((m.qos == 2) && awaits list m.publisher m.incarnation m.id)
 acts list (Release publisher incarnation id) = awaits list publisher incarnation id
@@ -48,9 +54,12 @@ placed m offset now = record m { offset = offset; stamp = now }
 
 -- a Store takes the next offset and the moment as its stamp
 abbrev pub act : ℕ → ShardList → Op → ShardList
-act now list (Store m) = record list { messages = list.messages ++ placed m (next_of list) now ∷ []; awaited = list.awaited ++ becomes_awaited m }
-act now list (Release publisher incarnation id) = record list { awaited = filter (λ a. not (is_awaited_as publisher incarnation id a)) list.awaited }
-act now list (Forget publisher incarnation) = record list { awaited = filter (λ a. not (is_of publisher incarnation a)) list.awaited }
+act now list (Store m) = record list
+    { messages = list.messages ++ placed m (next_of list) now ∷ []; awaited = list.awaited ++ becomes_awaited m }
+act now list (Release publisher incarnation id) =
+    record list { awaited = filter (λ a. not (is_awaited_as publisher incarnation id a)) list.awaited }
+act now list (Forget publisher incarnation) =
+    record list { awaited = filter (λ a. not (is_of publisher incarnation a)) list.awaited }
 
 abbrev pub act_if : Bool → ℕ → ShardList → Op → ShardList
 act_if true now list op = act now list op

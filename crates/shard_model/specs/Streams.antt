@@ -3,10 +3,10 @@ use Rattle.std.specs.Prelude.{ℕ, ◌-◌, Bool, true, false, List, [], ◌∷�
 use Rattle.topic_model.specs.Profile.{Profile}
 use Rattle.topic_model.specs.StoredMessage.{StoredMessage}
 use Rattle.shard_model.specs.ShardList.{Cut, ShardList, floor_of, next_of}
-use Rattle.shard_model.specs.LearnedPath.{Path, Tokens, path_from, with_path, learned, number_of}
+use Rattle.shard_model.specs.LearnedPath.{Path, Tokens, path_from, with_path, patterns_after, number_of}
 
 -- a message, and the stream that it lies in
-pub record Streamed : Type 0 where
+pub record StreamMessage : Type 0 where
   pub message : StoredMessage
   pub stream : ℕ
 
@@ -15,34 +15,34 @@ or_zero None = 0
 or_zero (Some n) = n
 
 -- the stream of a path among the patterns that have it
-abbrev pub streamed : StoredMessage → Path → List Path → Streamed
-streamed message path patterns = record { message = message; stream = or_zero (number_of path patterns) }
+abbrev pub in_stream : StoredMessage → Path → List Path → StreamMessage
+in_stream message path patterns = record { message = message; stream = or_zero (number_of path patterns) }
 
 -- each with its stream, where these patterns were learned before
-abbrev pub streams_from : ℕ → ℕ → List Path → List StoredMessage → List Streamed
+abbrev pub streams_from : ℕ → ℕ → List Path → List StoredMessage → List StreamMessage
 streams_from top below patterns [] = []
 streams_from top below patterns (m ∷ ms) =
     let path = path_from top below patterns [] m.topic in
     let known = with_path path patterns in
-    streamed m path known ∷ streams_from top below known ms
+    in_stream m path known ∷ streams_from top below known ms
 
 -- where topics aren't learned, there is the one stream 0
-abbrev pub in_one_stream : List StoredMessage → List Streamed
+abbrev pub in_one_stream : List StoredMessage → List StreamMessage
 in_one_stream ms = map (λ m. record { message = m; stream = 0 }) ms
 
-abbrev pub streams_if : Bool → Cut → List StoredMessage → List Streamed
+abbrev pub streams_if : Bool → Cut → List StoredMessage → List StreamMessage
 streams_if true cut ms = streams_from cut.top cut.below [] ms
 streams_if false cut ms = in_one_stream ms
 
 -- the messages of a generation, each with its stream
-abbrev pub streams_of : Profile → Cut → List StoredMessage → List Streamed
+abbrev pub streams_of : Profile → Cut → List StoredMessage → List StreamMessage
 streams_of profile cut ms = streams_if profile.learns cut ms
 
 abbrev pub topics_of : List StoredMessage → List Tokens
 topics_of ms = map (λ (m : StoredMessage). m.topic) ms
 
 abbrev pub patterns_if : Bool → Cut → List StoredMessage → List Path
-patterns_if true cut ms = learned cut.top cut.below [] (topics_of ms)
+patterns_if true cut ms = patterns_after cut.top cut.below [] (topics_of ms)
 patterns_if false cut ms = [] ∷ []
 
 -- the patterns of a generation: where topics aren't learned, one
@@ -61,12 +61,12 @@ abbrev pub messages_between : ShardList → ℕ → ℕ → List StoredMessage
 messages_between list first end = take (end - first) (drop (first - floor_of list) list.messages)
 
 -- a generation that is held: its cut, where it ends as the list shows it, and its messages with their streams
-pub record Held : Type 0 where
+pub record HeldGeneration : Type 0 where
   pub cut : Cut
   pub end : ℕ
-  pub messages : List Streamed
+  pub messages : List StreamMessage
 
-abbrev pub held_from : Profile → ShardList → List Cut → List Held
+abbrev pub held_from : Profile → ShardList → List Cut → List HeldGeneration
 held_from profile list [] = []
 held_from profile list (cut ∷ cuts) =
     record {
@@ -76,5 +76,5 @@ held_from profile list (cut ∷ cuts) =
     } ∷ held_from profile list cuts
 
 -- all generations of a list, oldest first
-abbrev pub held_generations : Profile → ShardList → List Held
+abbrev pub held_generations : Profile → ShardList → List HeldGeneration
 held_generations profile list = held_from profile list list.cuts

@@ -1,12 +1,36 @@
--- The order in which a subscription goes through the messages of a shard, generation by generation and in each stream by stream; what
+-- The order in which a subscription goes through the messages of a shard, generation by generation and in each stream
+-- by stream; what
 -- a sweep counts as issued; and the next run of messages.
-use Rattle.std.specs.Prelude.{ℕ, zero, suc, ◌+◌, ◌-◌, Bool, ◌&&◌, ◌||◌, ◌==◌, nat_lt, nat_le, if◌then◌else◌, List, [], ◌∷◌, ◌++◌, take, filter, map, Option, Some, None}
+use Rattle.std.specs.Prelude.{
+  ℕ,
+  zero,
+  suc,
+  ◌+◌,
+  ◌-◌,
+  Bool,
+  ◌&&◌,
+  ◌||◌,
+  ◌==◌,
+  nat_lt,
+  nat_le,
+  if◌then◌else◌,
+  List,
+  [],
+  ◌∷◌,
+  ◌++◌,
+  take,
+  filter,
+  map,
+  Option,
+  Some,
+  None,
+}
 use Rattle.std.specs.List.{list_any}
 use Rattle.topic_model.specs.Profile.{Profile}
 use Rattle.topic_model.specs.StoredMessage.{StoredMessage}
 use Rattle.shard_model.specs.declared.sweep.Sweep.{Sweep}
 use Rattle.shard_model.specs.ShardList.{ShardList, Cut, newest, oldest_of, floor_of, next_of}
-use Rattle.shard_model.specs.Streams.{Streamed, Held, held_generations, end_before}
+use Rattle.shard_model.specs.Streams.{StreamMessage, HeldGeneration, held_generations, end_before}
 use Rattle.shard_model.specs.Wanted.{is_wanted}
 
 -- ---- where a sweep stands
@@ -18,40 +42,53 @@ at_cut cut = record { generation = cut.number; base = cut.first; target = cut.fi
 -- where a subscription begins: behind all that the list has
 abbrev pub starting_sweep : ShardList → Sweep
 starting_sweep list =
-    record { generation = (newest list).number; base = next_of list; target = next_of list; stream = 0; position = next_of list }
+    record {
+      generation = (newest list).number;
+      base = next_of list;
+      target = next_of list;
+      stream = 0;
+      position =
+          next_of list;
+    }
 
 -- a sweep whose generation is no longer held stands at the front of the oldest one
 abbrev pub held_sweep : ShardList → Sweep → Sweep
-held_sweep list sweep = if nat_lt sweep.generation (oldest_of list.cuts).number then at_cut (oldest_of list.cuts) else sweep
+held_sweep list sweep = if nat_lt sweep.generation (oldest_of list.cuts).number then at_cut (oldest_of list.cuts)
+    else sweep
 
 -- ---- what a sweep counts as issued
 
--- of a message in the sweep's generation: below the base; or below the target in an earlier stream, or in the present one below the
+-- of a message in the sweep's generation: below the base; or below the target in an earlier stream, or in the present
+-- one below the
 -- position
-abbrev pub is_behind : Sweep → Streamed → Bool
+abbrev pub is_behind : Sweep → StreamMessage → Bool
 is_behind sweep s =
     nat_lt s.message.offset sweep.base
     || (nat_lt s.message.offset sweep.target
     && (nat_lt s.stream sweep.stream || ((s.stream == sweep.stream) && nat_lt s.message.offset sweep.position)))
 
 -- of a message in a generation with this number
-abbrev pub is_issued_in : Sweep → ℕ → Streamed → Bool
+abbrev pub is_issued_in : Sweep → ℕ → StreamMessage → Bool
 is_issued_in sweep number s = nat_lt number sweep.generation || ((number == sweep.generation) && is_behind sweep s)
 
-abbrev pub is_at : ℕ → Streamed → Bool
+abbrev pub is_at : ℕ → StreamMessage → Bool
 is_at offset s = s.message.offset == offset
 
 -- whether the sweep counts the message with this offset as issued
 abbrev pub is_issued_by : Profile → ShardList → Sweep → ℕ → Bool
 is_issued_by profile list sweep offset =
-    list_any (λ (g : Held). list_any (λ (s : Streamed). is_at offset s && is_issued_in (held_sweep list sweep) g.cut.number s) g.messages) (held_generations profile list)
+    list_any
+    (λ (g : HeldGeneration). list_any
+    (λ (s : StreamMessage). is_at offset s && is_issued_in (held_sweep list sweep) g.cut.number s) g.messages)
+    (held_generations profile list)
 
 -- ---- stretches
 
--- A stretch is the sweep at its front, one stream of a generation from the position up to the target, and the generation's messages.
+-- A stretch is the sweep at its front, one stream of a generation from the position up to the target, and the
+-- generation's messages.
 pub record Stretch : Type 0 where
   pub sweep : Sweep
-  pub messages : List Streamed
+  pub messages : List StreamMessage
 
 -- numbers from one on, so many
 abbrev pub counted_from : ℕ → ℕ → List ℕ
@@ -59,40 +96,47 @@ counted_from n zero = []
 counted_from n (suc more) = n ∷ counted_from (n + 1) more
 
 -- one more than the greatest stream of some messages
-abbrev pub stream_end : List Streamed → ℕ
+abbrev pub stream_end : List StreamMessage → ℕ
 stream_end [] = 0
 stream_end (s ∷ ss) = let rest = stream_end ss in if nat_le rest s.stream then s.stream + 1 else rest
 
 -- a window, from its base to its target: the streams from the sweep's own on, in each of the later ones from the base
-abbrev pub window : Sweep → List Streamed → List Stretch
+abbrev pub window : Sweep → List StreamMessage → List Stretch
 window sweep messages =
     record { sweep = sweep; messages = messages }
-    ∷ map (λ stream. record { sweep = record sweep { stream = stream; position = sweep.base }; messages = messages }) (counted_from (sweep.stream + 1) (stream_end messages - (sweep.stream + 1)))
+    ∷ map (λ stream. record { sweep = record sweep { stream = stream; position = sweep.base }; messages = messages })
+    (counted_from (sweep.stream + 1) (stream_end messages - (sweep.stream + 1)))
 
 -- the next window of the same generation: from the target to its end as the list shows it now
-abbrev pub grown_window : Sweep → Held → List Stretch
-grown_window sweep g = window (record sweep { base = sweep.target; target = g.end; stream = 0; position = sweep.target }) g.messages
+abbrev pub grown_window : Sweep → HeldGeneration → List Stretch
+grown_window sweep g =
+    window (record sweep { base = sweep.target; target = g.end; stream = 0; position = sweep.target }) g.messages
 
 -- from a sweep on: what is left of its window, the next one, and the later generations from their fronts
-abbrev pub stretches_from : Sweep → List Held → List Stretch
+abbrev pub stretches_from : Sweep → List HeldGeneration → List Stretch
 stretches_from sweep [] = []
 stretches_from sweep (g ∷ []) = window sweep g.messages ++ grown_window sweep g
-stretches_from sweep (g ∷ h ∷ held) = window sweep g.messages ++ (grown_window sweep g ++ stretches_from (at_cut h.cut) (h ∷ held))
+stretches_from sweep (g ∷ h ∷ held) =
+    window sweep g.messages ++ (grown_window sweep g ++ stretches_from (at_cut h.cut) (h ∷ held))
 
 -- all that lies before a sweep, in its order
 abbrev pub stretches : Profile → ShardList → Sweep → List Stretch
 stretches profile list sweep =
-    let held = held_sweep list sweep in stretches_from held (filter (λ (g : Held). nat_le held.generation g.cut.number) (held_generations profile list))
+    let held = held_sweep list sweep in
+    stretches_from held
+    (filter (λ (g : HeldGeneration). nat_le held.generation g.cut.number) (held_generations profile list))
 
 -- ---- the next run
 
 -- the wanted messages of a stretch, in order
-abbrev pub is_in : Sweep → Streamed → Bool
-is_in sweep s = (s.stream == sweep.stream) && (nat_le sweep.position s.message.offset && nat_lt s.message.offset sweep.target)
+abbrev pub is_in : Sweep → StreamMessage → Bool
+is_in sweep s = (s.stream == sweep.stream)
+    && (nat_le sweep.position s.message.offset && nat_lt s.message.offset sweep.target)
 
 abbrev pub wanted_in : List (List ℕ) → ℕ → Stretch → List StoredMessage
 wanted_in wish start stretch =
-    map (λ (s : Streamed). s.message) (filter (λ (s : Streamed). is_in stretch.sweep s && is_wanted wish start s.message) stretch.messages)
+    map (λ (s : StreamMessage). s.message)
+    (filter (λ (s : StreamMessage). is_in stretch.sweep s && is_wanted wish start s.message) stretch.messages)
 
 -- messages, and the sweep at the front of the stretch that they lie in
 pub record Run : Type 0 where
@@ -130,7 +174,8 @@ abbrev pub end_in : ShardList → List Cut → ℕ → ℕ
 end_in list [] number = floor_of list
 end_in list (cut ∷ cuts) number = if cut.number == number then end_before list cuts else end_in list cuts number
 
--- Its generation isn't later than the newest, and the subscription's start, its base, its position, its target and the generation's
+-- Its generation isn't later than the newest, and the subscription's start, its base, its position, its target and the
+-- generation's
 -- end don't fall.
 abbrev pub is_in_order : Profile → ShardList → ℕ → Sweep → Bool
 is_in_order profile list start sweep =

@@ -15,3 +15,4 @@ pub mod RunLaws
 pub mod SweepLaws
 pub mod NextRunLaws
 pub mod GrownSweepLaws
+pub mod AllowedMoveLaws

@@ -1,52 +1,52 @@
 ghost use Rattle.std.specs.Prelude.{◌≡◌, ◌≤◌, ◌<◌, ◌++◌, ◌∷◌, Bool, true, false, List, ℕ, [], Some, None, map, take, slice_get};
 ghost use Rattle.topic_model.specs.StoredMessage.{StoredMessage};
-ghost use Rattle.shard_model.specs.LearnedPath.{Path, Tokens, patterns_of, learned, learned_path, path_from, number_of};
-ghost use Rattle.shard_model.specs.Streams.{Held, held_generations, streamed, streams_from, topics_of};
+ghost use Rattle.shard_model.specs.LearnedPath.{Path, Tokens, patterns_of, patterns_after, learned_path, path_from, number_of};
+ghost use Rattle.shard_model.specs.Streams.{HeldGeneration, held_generations, in_stream, streams_from, topics_of};
 ghost use Rattle.shard_model.specs.laws.NumberLaws.{HasNumber};
 ghost use Rattle.topic_model.specs.Profile.{Config, Profile};
 ghost use Rattle.shard_model.specs.ShardList.{Cut, ShardList, floor_of, next_of, message_at, newest, oldest_of, opening_list};
 ghost use Rattle.shard_model.specs.Storing.{Op, store};
-ghost use Rattle.shard_model.specs.Growing.{HasCut, HasGrown};
+ghost use Rattle.topic_model.specs.Places.{HasPlace};
+ghost use Rattle.shard_model.specs.Growing.{HasGrown};
 ghost use Rattle.shard_model.specs.Capacity.{learns_few_or_within, learns_within, rotated, dropped};
 ghost use Rattle.shard_model.specs.Lists.{IsList};
-ghost use Rattle.shard_model.specs.laws.GrownLaws.{HasHeld, Continues};
+ghost use Rattle.shard_model.specs.laws.GrownLaws.{Continues};
 ghost use Rattle.shard_model.specs.Wanted.{wanted};
-ghost use Rattle.shard_model.specs.laws.PlaceLaws.{HasPlace};
 ghost use Rattle.shard_model.specs.NextRun.{IsNextRun};
 ghost use Rattle.shard_model.specs.SweepOrder.{Run, next_run, is_in_order, is_issued_by};
 ghost use Rattle.shard_model.specs.declared.sweep.Sweep.{Sweep};
-ghost use Rattle.shard_model.specs.ShardMoves.{Shard, ShardMove, Nothing, Show, is_nothing, if_drop, opening_shard, shard_step, shard_run, crashed_shard};
+ghost use Rattle.shard_model.specs.ShardMoves.{Shard, ShardMove, Nothing, Show, pends_nothing, if_drop, opening_shard, shard_step, shard_run, crashed_shard};
 ghost use Rattle.shard_model.specs.Shards.{IsShard, is_show};
 
 /// A law: the patterns that are carried along from topic to topic are the distinct paths of the whole list, and give
 /// each later topic the same path.
 pub fn patterns_are_carried()
     ensures patterns { (top below : ℕ) (topics : List Tokens) →
-        patterns_of top below topics ≡ learned top below [] topics }
+        patterns_of top below topics ≡ patterns_after top below [] topics }
     ensures path { (top below : ℕ) (topics : List Tokens) (topic : Tokens) →
         learned_path top below topics topic
-        ≡ path_from top below (learned top below [] topics) [] topic }
+        ≡ path_from top below (patterns_after top below [] topics) [] topic }
 {}
 
 /// A law: what was learned and streamed stays as the list grows: more topics are learned over the patterns of those
 /// before, more messages are streamed behind those before, and the number of a pattern stays.
 pub fn streams_are_patterns()
     ensures learned { (top below : ℕ) (patterns : List Path) (xs ys : List Tokens) →
-        learned top below patterns (xs ++ ys)
-        ≡ learned top below (learned top below patterns xs) ys }
+        patterns_after top below patterns (xs ++ ys)
+        ≡ patterns_after top below (patterns_after top below patterns xs) ys }
     ensures streams { (top below : ℕ) (patterns : List Path) (ms more : List StoredMessage) →
         streams_from top below patterns (ms ++ more) ≡ streams_from top below patterns ms
-        ++ streams_from top below (learned top below patterns (topics_of ms)) more }
+        ++ streams_from top below (patterns_after top below patterns (topics_of ms)) more }
     ensures numbers { (top below : ℕ) (patterns : List Path) (topics : List Tokens)
         (path : Path) (n : ℕ) → number_of path patterns ≡ Some n →
-        number_of path (learned top below patterns topics) ≡ Some n }
+        number_of path (patterns_after top below patterns topics) ≡ Some n }
 {}
 
 /// A law: the stream of each message is the number of its topic's learned path among the patterns of all topics, each
 /// topic of a list has such a number, and at its number stands the path.
 pub fn a_stream_is_a_number()
     ensures streams { (top below : ℕ) (ms : List StoredMessage) →
-        streams_from top below [] ms ≡ map (λ (m : StoredMessage). streamed m
+        streams_from top below [] ms ≡ map (λ (m : StoredMessage). in_stream m
         (learned_path top below (topics_of ms) m.topic) (patterns_of top below (topics_of ms))) ms }
     ensures each { (top below : ℕ) (before : List Tokens) (topic : Tokens) (after : List Tokens) →
         HasNumber (learned_path top below (before ++ topic ∷ after) topic)
@@ -82,15 +82,15 @@ pub fn storing_grows()
 /// own, and it begins between the floor and the next offset; the newest alone isn't sealed; and at each offset from the
 /// floor up to the next one lies a message with this offset.
 pub fn order_means()
-    ensures numbers { (list : ShardList) (cut : Cut) → IsList list → HasCut list.cuts cut →
+    ensures numbers { (list : ShardList) (cut : Cut) → IsList list → HasPlace list.cuts cut →
         ((oldest_of list.cuts).number ≤ cut.number) × (cut.number ≤ (newest list).number) }
-    ensures once { (list : ShardList) (cut other : Cut) → IsList list → HasCut list.cuts cut →
-        HasCut list.cuts other → cut.number ≡ other.number → cut ≡ other }
-    ensures firsts { (list : ShardList) (cut : Cut) → IsList list → HasCut list.cuts cut →
+    ensures once { (list : ShardList) (cut other : Cut) → IsList list → HasPlace list.cuts cut →
+        HasPlace list.cuts other → cut.number ≡ other.number → cut ≡ other }
+    ensures firsts { (list : ShardList) (cut : Cut) → IsList list → HasPlace list.cuts cut →
         (floor_of list ≤ cut.first) × (cut.first ≤ next_of list) }
     ensures newest { (list : ShardList) → IsList list →
-        HasCut list.cuts (newest list) × ((newest list).sealed ≡ None) }
-    ensures sealed { (list : ShardList) (cut : Cut) → IsList list → HasCut list.cuts cut →
+        HasPlace list.cuts (newest list) × ((newest list).sealed ≡ None) }
+    ensures sealed { (list : ShardList) (cut : Cut) → IsList list → HasPlace list.cuts cut →
         cut.sealed ≡ None → cut ≡ newest list }
     ensures messages { (list : ShardList) (offset : ℕ) → IsList list →
         floor_of list ≤ offset → offset < next_of list →
@@ -120,10 +120,10 @@ pub fn dropping_grows()
 /// A law: as a list grows, each generation that isn't gone is still held: it ends where it did or later, and its
 /// messages keep their streams, with more messages behind them.
 pub fn streams_stay()
-    ensures { (profile : Profile) (list later : ShardList) (g : Held) →
+    ensures { (profile : Profile) (list later : ShardList) (g : HeldGeneration) →
         IsList list → IsList later → HasGrown list later →
-        HasHeld (held_generations profile list) g → (oldest_of later.cuts).number ≤ g.cut.number →
-        (other : Held) × HasHeld (held_generations profile later) other × Continues g other }
+        HasPlace (held_generations profile list) g → (oldest_of later.cuts).number ≤ g.cut.number →
+        (other : HeldGeneration) × HasPlace (held_generations profile later) other × Continues g other }
 {}
 
 /// A law: whatever move a shard makes, what is stored has grown from what was stored, and where no drop pends, the
@@ -158,7 +158,7 @@ pub fn pending_is_not_shown()
     ensures shown { (profile : Profile) (config : Config) (s : Shard) →
         s.pending ≡ Nothing → (shard_step profile config s Show).shown ≡ s.stored }
     ensures waits { (profile : Profile) (config : Config) (s : Shard) →
-        is_nothing s.pending ≡ false → shard_step profile config s Show ≡ s }
+        pends_nothing s.pending ≡ false → shard_step profile config s Show ≡ s }
 {}
 
 /// A law: behind a crash, whether what pended went in or not, what is stored has grown from what was stored, and is

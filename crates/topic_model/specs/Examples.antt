@@ -7,7 +7,7 @@ use Rattle.topic_model.specs.declared.refused.FilterRefused.TheVariants as Filte
 use Rattle.topic_model.specs.Levels.{levels_of, text_of_levels}
 use Rattle.topic_model.specs.Matching.{matches}
 use Rattle.topic_model.specs.Texts.{topic_refusal, filter_refusal, asks_to_share}
-use Rattle.topic_model.specs.Routing.{shard_of, worker_of, assigned, assigned_worker, routed_worker}
+use Rattle.topic_model.specs.Routing.{shard_of, worker_of, assigned_identifier, assigned_worker, routed_worker}
 
 -- ---- levels
 
@@ -23,7 +23,8 @@ together_again = refl
 hash_and_parent : matches (levels_of (codes "sport/tennis/player1/#")) (levels_of (codes "sport/tennis/player1")) ≡ true
 hash_and_parent = refl
 
-hash_and_two_levels : matches (levels_of (codes "sport/tennis/player1/#")) (levels_of (codes "sport/tennis/player1/score/wimbledon")) ≡ true
+hash_and_two_levels : matches (levels_of (codes "sport/tennis/player1/#"))
+    (levels_of (codes "sport/tennis/player1/score/wimbledon")) ≡ true
 hash_and_two_levels = refl
 
 -- `+` matches one level, which may be empty, and no two (MQTT 4.7.1.3)
@@ -105,7 +106,7 @@ worker_of_abc : worker_of (codes "abc") 16 ≡ 3
 unfolding first_words schedule rounds compress hash_after digest_bytes sha256
 worker_of_abc = refl
 
-an_assigned : assigned 3 17 ≡ codes "auto-03-17"
+an_assigned : assigned_identifier 3 17 ≡ codes "auto-03-17"
 unfolding digits
 an_assigned = refl
 

@@ -16,13 +16,13 @@ abbrev pub joined_after : ℕ → List ℕ → List (List ℕ) → List ℕ
 joined_after separator p [] = p
 joined_after separator p (q ∷ ps) = p ++ separator ∷ joined_after separator q ps
 
-abbrev pub joined : ℕ → List (List ℕ) → List ℕ
-joined separator [] = []
-joined separator (p ∷ ps) = joined_after separator p ps
+abbrev pub joined_by : ℕ → List (List ℕ) → List ℕ
+joined_by separator [] = []
+joined_by separator (p ∷ ps) = joined_after separator p ps
 
 -- the levels of a topic name or a filter, and the text of levels
 abbrev pub levels_of : List ℕ → List (List ℕ)
 levels_of text = pieces 0x2F text
 
 abbrev pub text_of_levels : List (List ℕ) → List ℕ
-text_of_levels levels = joined 0x2F levels
+text_of_levels levels = joined_by 0x2F levels

@@ -1,3 +1,5 @@
+pub mod Places
+pub mod Decimals
 pub mod Levels
 pub mod Matching
 pub mod Texts

@@ -13,7 +13,8 @@ abbrev pub is_last : List (List ℕ) → Bool
 is_last [] = true
 is_last (level ∷ levels) = false
 
--- A last `#` matches every rest, the empty one included (MQTT 4.7.1.2); `+` matches any one level (MQTT 4.7.1.3); another
+-- A last `#` matches every rest, the empty one included (MQTT 4.7.1.2); `+` matches any one level (MQTT 4.7.1.3);
+-- another
 -- level its equal (MQTT 4.7.3).
 abbrev pub levels_match : List (List ℕ) → List (List ℕ) → Bool
 levels_match [] [] = true

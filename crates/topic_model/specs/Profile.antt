@@ -1,4 +1,5 @@
--- The numbers of the broker's limits, and what of it is built. Definitions take a profile, so that a stage on the way has one of
+-- The numbers of the broker's limits, and what of it is built. Definitions take a profile, so that a stage on the way
+-- has one of
 -- its own, and a row at a limit computes with a small number.
 use Rattle.std.specs.Prelude.{ℕ, Bool, true, false}
 
@@ -6,13 +7,15 @@ pub record Profile : Type 0 where
   -- the most bytes of a packet, its header included (MQTT 3.1.2.11.4), and of a client identifier
   pub packet : ℕ
   pub client : ℕ
-  -- the most live subscriptions of a session, bytes of all filter texts that it keeps, and filters granted in one SUBSCRIBE
+  -- the most live subscriptions of a session, bytes of all filter texts that it keeps, and filters granted in one
+  -- SUBSCRIBE
   pub subscriptions : ℕ
   pub filter_texts : ℕ
   pub granted : ℕ
   -- the most sessions of a worker
   pub sessions : ℕ
-  -- how many deliveries of a session may be unfinished, and the most messages of a batch; the same of a wide window, and how many
+  -- how many deliveries of a session may be unfinished, and the most messages of a batch; the same of a wide window,
+  -- and how many
   -- sessions of a worker may have one
   pub window : ℕ
   pub batch : ℕ
@@ -24,7 +27,8 @@ pub record Profile : Type 0 where
   -- the most identifiers of QoS 2 that a connection holds, and that a shard awaits
   pub held : ℕ
   pub awaited : ℕ
-  -- the most generations of a shard; and of a generation the bytes of its Stores, the streams, and the nodes of what it learned
+  -- the most generations of a shard; and of a generation the bytes of its Stores, the streams, and the nodes of what it
+  -- learned
   pub generations : ℕ
   pub generation_bytes : ℕ
   pub streams : ℕ
@@ -35,7 +39,8 @@ pub record Profile : Type 0 where
   pub forgets : ℕ
   -- the most changes of a record
   pub changes : ℕ
-  -- whether topics are learned, publishes of one piece are joined in groups and acknowledgements in records, Forgets go with
+  -- whether topics are learned, publishes of one piece are joined in groups and acknowledgements in records, Forgets go
+  -- with
   -- groups, bodies of sealed generations are cold, messages expire, and windows may be wide
   pub learns : Bool
   pub joins : Bool
@@ -78,7 +83,8 @@ whole =
       widens = true;
     }
 
--- what a script may set: how many shards and workers there are, the thresholds of what is learned at the first level and below it,
+-- what a script may set: how many shards and workers there are, the thresholds of what is learned at the first level
+-- and below it,
 -- the most messages of a generation, and how long a sealed generation is kept at least, in milliseconds
 pub record Config : Type 0 where
   pub shards : ℕ
@@ -93,7 +99,8 @@ default_config = record { shards = 1; workers = 1; top = 100; below = 10; messag
 
 -- ---- stages on the way to the whole
 
--- each publish is a group of its own, without Forgets, each packet's changes are a record of their own, and all bodies are in memory
+-- each publish is a group of its own, without Forgets, each packet's changes are a record of their own, and all bodies
+-- are in memory
 abbrev pub singly : Profile → Profile
 singly profile = record profile { joins = false; forgets_too = false; cools = false }
 
@@ -102,16 +109,16 @@ abbrev pub one_generation : Profile → Profile
 one_generation profile = record profile { generations = 1 }
 
 -- all topics of a generation have one stream
-abbrev pub unlearned : Profile → Profile
-unlearned profile = record profile { learns = false }
+abbrev pub without_learning : Profile → Profile
+without_learning profile = record profile { learns = false }
 
 -- a publish that is to expire is refused
-abbrev pub unexpiring : Profile → Profile
-unexpiring profile = record profile { expires = false }
+abbrev pub without_expiry : Profile → Profile
+without_expiry profile = record profile { expires = false }
 
 -- no window is wide
-abbrev pub narrow : Profile → Profile
-narrow profile = record profile { widens = false }
+abbrev pub without_wide_windows : Profile → Profile
+without_wide_windows profile = record profile { widens = false }
 
 abbrev pub first_stage : Profile
-first_stage = narrow (unexpiring (unlearned (one_generation (singly whole))))
+first_stage = without_wide_windows (without_expiry (without_learning (one_generation (singly whole))))

@@ -1,10 +1,37 @@
 -- Which shard and which worker a client identifier belongs to.
-use Rattle.std.specs.Prelude.{ℕ, ◌+◌, ◌*◌, ◌-◌, ◌%◌, Bool, true, false, ◌&&◌, ◌||◌, not, ◌==◌, nat_lt, if◌then◌else◌, List, [], ◌++◌, length, take, drop, slice_index, codes, Option, Some, None}
+use Rattle.std.specs.Prelude.{
+  ℕ,
+  ◌+◌,
+  ◌*◌,
+  ◌-◌,
+  ◌%◌,
+  Bool,
+  true,
+  false,
+  ◌&&◌,
+  ◌||◌,
+  not,
+  ◌==◌,
+  nat_lt,
+  if◌then◌else◌,
+  List,
+  [],
+  ◌++◌,
+  length,
+  take,
+  drop,
+  slice_index,
+  codes,
+  Option,
+  Some,
+  None,
+}
 use Rattle.std.specs.List.{list_all}
 use Rattle.std.specs.Int.{w64, from_be_bytes}
 use Rattle.std.specs.Char.{is_ascii_digit}
 use Rattle.std.specs.Str.{bytes_eq}
 use Rattle.std.specs.Fmt.{decimal}
+use Rattle.topic_model.specs.Decimals.{is_decimal}
 use Rattle.sha2.specs.Sha256.{sha256}
 
 -- bytes 0 to 7 of the SHA-256 of the identifier, the highest first, modulo the number of shards
@@ -28,12 +55,8 @@ abbrev pub two_digits : ℕ → List ℕ
 two_digits n = (if nat_lt n 10 then codes "0" else []) ++ decimal n
 
 -- the identifier that a worker assigns (MQTT 3.1.3.1): its own number in two digits, and a number
-abbrev pub assigned : ℕ → ℕ → List ℕ
-assigned worker number = codes "auto-" ++ (two_digits worker ++ (codes "-" ++ decimal number))
-
--- decimal digits without a leading zero
-abbrev pub is_decimal : List ℕ → Bool
-is_decimal digits = nat_lt 0 (length digits) && list_all is_ascii_digit digits && ((length digits == 1) || not (slice_index digits 0 == 0x30))
+abbrev pub assigned_identifier : ℕ → ℕ → List ℕ
+assigned_identifier worker number = codes "auto-" ++ (two_digits worker ++ (codes "-" ++ decimal number))
 
 abbrev pub value_of_two : List ℕ → ℕ
 value_of_two text = 10 * (slice_index text 5 - 0x30) + (slice_index text 6 - 0x30)

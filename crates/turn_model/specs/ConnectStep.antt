@@ -1,7 +1,7 @@
 -- CONNECT (MQTT 3.1): which session it begins or resumes, why it is refused, and what CONNACK says (MQTT 3.2).
 use Rattle.std.specs.Prelude.{ℕ, zero, suc, ◌+◌, Bool, true, false, ◌&&◌, ◌||◌, not, ◌==◌, nat_le, nat_lt, if◌then◌else◌, List, [], ◌∷◌, ◌++◌, length, Option, Some, None, is_some}
 use Rattle.topic_model.specs.Profile.{Profile}
-use Rattle.topic_model.specs.Routing.{assigned}
+use Rattle.topic_model.specs.Routing.{assigned_identifier}
 use Rattle.session_model.specs.PlainSession.{PlainSession, Sessions, session_of}
 use Rattle.session_model.specs.Change.{Change, Began, Ended, Bound, change}
 use Rattle.session_model.specs.Acting.{without_session}
@@ -25,11 +25,11 @@ is_free sessions client = not (is_some (session_of client sessions))
 abbrev pub free_number : ℕ → Sessions → ℕ → ℕ → ℕ
 free_number worker sessions number zero = number
 free_number worker sessions number (suc more) =
-    elim (is_free sessions (assigned worker number)) as (λ free. ℕ) [ true ↦ number | false ↦ free_number worker sessions (number + 1) more ]
+    elim (is_free sessions (assigned_identifier worker number)) as (λ free. ℕ) [ true ↦ number | false ↦ free_number worker sessions (number + 1) more ]
 
 -- an empty identifier is replaced: by the worker's number and the least one from its next session's on that no session has
 abbrev pub assigned_client : Setting → List ℕ
-assigned_client s = assigned s.worker (free_number s.worker s.sessions s.sessions.next (length s.sessions.list))
+assigned_client s = assigned_identifier s.worker (free_number s.worker s.sessions s.sessions.next (length s.sessions.list))
 
 abbrev pub is_unnamed : ConnectFields → Bool
 is_unnamed c = length c.client == 0

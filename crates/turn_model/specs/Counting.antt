@@ -11,7 +11,7 @@ use Rattle.session_model.specs.Acting.{issued_session}
 use Rattle.turn_model.specs.PlainConnection.{rest_of}
 use Rattle.turn_model.specs.Batch.{pump_limit, cut_run, next1_of, next2_of}
 use Rattle.turn_model.specs.Pump.{issues_of}
-use Rattle.shard_model.specs.laws.PlaceLaws.{HasPlace}
+use Rattle.topic_model.specs.Places.{HasPlace}
 use Rattle.turn_model.specs.MayIssue.{Issuing, reader_of, wanted_by, was_issued}
 
 -- a wanted message was issued exactly where the sweep counts it as issued

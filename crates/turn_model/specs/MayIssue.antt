@@ -5,7 +5,7 @@ use Rattle.topic_model.specs.Profile.{Profile}
 use Rattle.topic_model.specs.StoredMessage.{StoredMessage}
 use Rattle.shard_model.specs.ShardList.{ShardList}
 use Rattle.shard_model.specs.Wanted.{wanted, same_topic}
-use Rattle.shard_model.specs.laws.PlaceLaws.{HasPlace}
+use Rattle.topic_model.specs.Places.{HasPlace}
 use Rattle.shard_model.specs.SweepOrder.{is_in_order}
 use Rattle.session_model.specs.declared.entry.Entry.{Entry}
 use Rattle.session_model.specs.declared.entry.Kind.{Kind}

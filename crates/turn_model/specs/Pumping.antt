@@ -5,7 +5,7 @@ use Rattle.topic_model.specs.StoredMessage.{StoredMessage}
 use Rattle.shard_model.specs.ShardList.{ShardList}
 use Rattle.shard_model.specs.SweepOrder.{is_in_order}
 use Rattle.shard_model.specs.Lists.{IsList}
-use Rattle.shard_model.specs.laws.PlaceLaws.{HasPlace}
+use Rattle.topic_model.specs.Places.{HasPlace}
 use Rattle.session_model.specs.declared.entry.Version.{Version}
 use Rattle.session_model.specs.PlainSession.{PlainSession, version_numbered}
 use Rattle.session_model.specs.Change.{Issues}

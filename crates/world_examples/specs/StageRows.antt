@@ -1,7 +1,7 @@
 -- What the stages on the way to the whole broker print: where publishes and receipts aren't joined, one generation is held, topics aren't
 -- learned, messages don't expire, or no window is wide.
 use Rattle.std.specs.Prelude.{ℕ, ◌≡◌, refl, List, [], ◌∷◌, ◌++◌, codes}
-use Rattle.topic_model.specs.Profile.{whole, singly, one_generation, unlearned, unexpiring, narrow, first_stage}
+use Rattle.topic_model.specs.Profile.{whole, singly, one_generation, without_learning, without_expiry, without_wide_windows, first_stage}
 use Rattle.shard_model.specs.Choices.{Works, Fails}
 use Rattle.world_model.specs.Computing.{running}
 use Rattle.world_model.specs.Running.{text_of_script}
@@ -60,7 +60,7 @@ one_is_full = refl
 -- ---- learned topics
 
 -- messages of four topics go out in the order in which they were stored, all in one batch
-in_the_order_of_offsets : text_of_script (unlearned whole)
+in_the_order_of_offsets : text_of_script (without_learning whole)
     (lines (codes "set below 2" ∷ opens one ∷ send one connect_a ∷ send one (codes "82090001000003612F2B01") ∷ opens two ∷ send two connect_p
     ∷ send two (codes "320A0003612F310001006869") ∷ send two (codes "320A0003612F320002006869") ∷ send two (codes "320A0003612F330003006869")
     ∷ send two (codes "320A0003612F310004006869") ∷ pumps one ∷ [])) []
@@ -73,7 +73,7 @@ in_the_order_of_offsets = refl
 -- ---- message expiry
 
 -- an interval of ten seconds is refused, and nothing is stored
-no_expiry_yet : text_of_script (unexpiring whole)
+no_expiry_yet : text_of_script (without_expiry whole)
     (lines (listening at_least_once ++ send two (codes "320F0003612F62000705020000000A6869") ∷ pumps one ∷ [])) []
     ≡ lines (heard at_least_once ++ gets two (codes "4003000783") ∷ [])
 unfolding running
@@ -82,7 +82,7 @@ no_expiry_yet = refl
 -- ---- windows
 
 -- a client that could take a wide window has the narrow one
-no_wide_one : text_of_script (narrow (record whole { window = 1; batch = 1; wide_window = 2; wide_batch = 2 }))
+no_wide_one : text_of_script (without_wide_windows (record whole { window = 1; batch = 1; wide_window = 2; wide_batch = 2 }))
     (lines (opens one ∷ send one (codes "101600044D5154540500003C081100000E10210800000161") ∷ send one (codes "82090001000003612F6201") ∷ opens two
     ∷ send two connect_p ∷ send two (of_hi (codes "32") (codes "07")) ∷ send two (of_hi (codes "32") (codes "08")) ∷ pumps one ∷ pumps one ∷ [])) []
     ≡ lines (heard at_least_once ++ gets two (codes "40020007") ∷ gets two (codes "40020008") ∷ gets one (of_hi (codes "32") (codes "01")) ∷ [])

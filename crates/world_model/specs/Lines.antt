@@ -1,6 +1,6 @@
 -- The lines of a script.
 use Rattle.std.specs.Prelude.{ℕ, ◌+◌, ◌*◌, ◌-◌, Bool, true, false, ◌&&◌, ◌||◌, not, ◌==◌, nat_le, nat_lt, if◌then◌else◌, List, [], ◌∷◌, length, slice_index, codes, Option, Some, None, Result, Ok, Err, ◌≡◌, refl}
-use Rattle.topic_model.specs.Routing.{is_decimal}
+use Rattle.topic_model.specs.Decimals.{number_between}
 use Rattle.std.specs.List.{list_all}
 use Rattle.std.specs.Char.{is_ascii_digit}
 use Rattle.std.specs.Str.{bytes_eq}
@@ -26,11 +26,6 @@ pub data Line : Type 0 where
   Look : Line
 
 -- ---- words
-
--- the number that a word is in decimal, if it lies between two
-abbrev pub number_between : ℕ → ℕ → List ℕ → Option ℕ
-number_between least most text =
-    if is_decimal text && (nat_le least (digits_value 10 text) && nat_le (digits_value 10 text) most) then Some (digits_value 10 text) else None
 
 abbrev pub connection_of : List ℕ → Option ℕ
 connection_of text = number_between 0 65535 text

@@ -7,7 +7,7 @@ use Rattle.topic_model.specs.Routing.{routed_worker}
 use Rattle.shard_model.specs.ShardList.{ShardList}
 use Rattle.shard_model.specs.Storing.{Op}
 use Rattle.shard_model.specs.Choices.{Choice, Fates, Drawn, draw}
-use Rattle.shard_model.specs.ShardMoves.{Shard, ShardMove, is_nothing}
+use Rattle.shard_model.specs.ShardMoves.{Shard, ShardMove, pends_nothing}
 use Rattle.shard_model.specs.ShardMoves as Shards
 use Rattle.shard_model.specs.ShardCalls.{Appended, AppendedAt, Full, AwaitFull, AppendFault, AppendCall, DropCall, FetchCall, Fetched, FetchedAll, Gone, FetchFault, append_call, tick_call, fetch_call}
 use Rattle.session_model.specs.Ends.{moment_of}
@@ -277,7 +277,7 @@ chosen false c = record c { choices = c.choices ++ false ∷ [] }
 
 abbrev pub choose_shards : List WorldShard → Crashing → Crashing
 choose_shards [] c = c
-choose_shards (s ∷ ss) c = choose_shards ss (chosen (not (is_nothing s.shard.pending)) c)
+choose_shards (s ∷ ss) c = choose_shards ss (chosen (not (pends_nothing s.shard.pending)) c)
 
 abbrev pub choose_workers : List Worker → Crashing → Crashing
 choose_workers [] c = c

@@ -4,11 +4,11 @@ use Rattle.std.specs.List.{flat_map}
 use Rattle.std.specs.Fmt.{decimal}
 use Rattle.hex.specs.Hex.{encode_upper}
 use Rattle.topic_model.specs.Profile.{Profile}
-use Rattle.topic_model.specs.Levels.{joined}
+use Rattle.topic_model.specs.Levels.{joined_by}
 use Rattle.topic_model.specs.StoredMessage.{StoredMessage}
 use Rattle.shard_model.specs.ShardList.{ShardList, floor_of, next_of}
 use Rattle.shard_model.specs.LearnedPath.{Level, Path, Token, Plus}
-use Rattle.shard_model.specs.Streams.{Streamed, Held, held_generations, patterns_in}
+use Rattle.shard_model.specs.Streams.{StreamMessage, HeldGeneration, held_generations, patterns_in}
 use Rattle.session_model.specs.PlainSession.{PlainSession, Sessions}
 use Rattle.session_model.specs.Unfinished.{unfinished}
 use Rattle.session_model.specs.FitsSession.{live_count}
@@ -37,31 +37,31 @@ level_text Plus = codes "+"
 
 -- a pattern's levels, a learned one as `+`
 abbrev pub pattern_text : Path → List ℕ
-pattern_text path = joined 0x2F (map level_text path)
+pattern_text path = joined_by 0x2F (map level_text path)
 
-abbrev pub count_in : ℕ → List Streamed → ℕ
-count_in stream ss = length (filter (λ (s : Streamed). s.stream == stream) ss)
+abbrev pub count_in : ℕ → List StreamMessage → ℕ
+count_in stream ss = length (filter (λ (s : StreamMessage). s.stream == stream) ss)
 
-abbrev pub stream_text : ℕ → Path → List Streamed → List ℕ
+abbrev pub stream_text : ℕ → Path → List StreamMessage → List ℕ
 stream_text stream path ss =
     ended (with_number (codes "  stream ") stream ++ (codes " " ++ (pattern_text path ++ with_number (codes " count ") (count_in stream ss))))
 
-abbrev pub streams_text : ℕ → List Path → List Streamed → List ℕ
+abbrev pub streams_text : ℕ → List Path → List StreamMessage → List ℕ
 streams_text stream [] ss = []
 streams_text stream (path ∷ paths) ss = stream_text stream path ss ++ streams_text (stream + 1) paths ss
 
-abbrev pub messages_of : List Streamed → List StoredMessage
-messages_of ss = map (λ (s : Streamed). s.message) ss
+abbrev pub messages_of : List StreamMessage → List StoredMessage
+messages_of ss = map (λ (s : StreamMessage). s.message) ss
 
-abbrev pub generation_line : Held → List Path → List ℕ
+abbrev pub generation_line : HeldGeneration → List Path → List ℕ
 generation_line g paths =
     ended (with_number (codes " generation ") g.cut.number
     ++ (with_number (codes " first ") g.cut.first ++ (with_number (codes " next ") g.end ++ with_number (codes " streams ") (length paths))))
 
-abbrev pub generation_with : Held → List Path → List ℕ
+abbrev pub generation_with : HeldGeneration → List Path → List ℕ
 generation_with g paths = generation_line g paths ++ streams_text 0 paths g.messages
 
-abbrev pub generation_text : Profile → Held → List ℕ
+abbrev pub generation_text : Profile → HeldGeneration → List ℕ
 generation_text profile g = generation_with g (patterns_in profile g.cut (messages_of g.messages))
 
 abbrev pub shard_line : ℕ → ShardList → List ℕ

@@ -5,7 +5,7 @@ use Rattle.topic_model.specs.Profile.{Profile, Config}
 use Rattle.topic_model.specs.StoredMessage.{StoredMessage}
 use Rattle.shard_model.specs.ShardList.{ShardList, opening_list}
 use Rattle.shard_model.specs.Storing.{Op}
-use Rattle.shard_model.specs.ShardMoves.{Shard, ShardMove, Pending, Nothing, AGroup, is_nothing, if_group, opening_shard, shard_step, crashed_shard}
+use Rattle.shard_model.specs.ShardMoves.{Shard, ShardMove, PendingChange, Nothing, AGroup, pends_nothing, if_group, opening_shard, shard_step, crashed_shard}
 use Rattle.shard_model.specs.ShardMoves as Shards
 use Rattle.shard_model.specs.SweepOrder.{counted_from}
 use Rattle.session_model.specs.PlainSession.{PlainSession}
@@ -112,7 +112,7 @@ module _ (profile : Profile) (config : Config) where
 
   -- what pends is the group that these asked for, where it was begun
   abbrev pub begun : Asked → Shard → Shard → WorldShard → WorldShard
-  begun asked before after s = record { shard = after; asked = if is_nothing before.pending && if_group after.pending then Some asked else s.asked }
+  begun asked before after s = record { shard = after; asked = if pends_nothing before.pending && if_group after.pending then Some asked else s.asked }
 
   abbrev pub begin_group : Asked → List Op → ℕ → WorldShard → WorldShard
   begin_group asked ops now s = begun asked s.shard (shard_step profile config s.shard (Shards.Begin ops now)) s
@@ -132,7 +132,7 @@ module _ (profile : Profile) (config : Config) where
   -- ---- a stored group
 
   -- what its worker is handed: for each publish the message that stands for it
-  abbrev pub messages_in : ShardList → Pending → List (Option StoredMessage)
+  abbrev pub messages_in : ShardList → PendingChange → List (Option StoredMessage)
   messages_in list (AGroup ops now) = stored_messages list ops now
   messages_in list other = []
 

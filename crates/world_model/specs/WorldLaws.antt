@@ -8,7 +8,7 @@ use Rattle.topic_model.specs.StoredMessage.{StoredMessage}
 use Rattle.shard_model.specs.declared.sweep.Sweep.{Sweep}
 use Rattle.shard_model.specs.ShardList.{ShardList, Awaited, floor_of, next_of, message_at}
 use Rattle.shard_model.specs.Storing.{is_message_of}
-use Rattle.shard_model.specs.laws.PlaceLaws.{HasPlace}
+use Rattle.topic_model.specs.Places.{HasPlace}
 use Rattle.shard_model.specs.Growing.{HasGrown}
 use Rattle.shard_model.specs.Lists.{IsList}
 use Rattle.shard_model.specs.Shards.{IsShard}
@@ -19,7 +19,7 @@ use Rattle.session_model.specs.declared.entry.Kind.TheVariants.{Zero}
 use Rattle.session_model.specs.PlainSession.{PlainSession, Subscription, Sessions, in_use}
 use Rattle.session_model.specs.Unfinished.{is_finished}
 use Rattle.session_model.specs.Acting.{act_all}
-use Rattle.session_model.specs.FitsSession.{fit_all}
+use Rattle.session_model.specs.FitsSession.{changes_fit}
 use Rattle.session_model.specs.Orders.{HasNumbers}
 use Rattle.session_model.specs.IssuedPrefix.{IsIssuedPrefix}
 use Rattle.mqtt_packet.specs.Packet.{PlainPacket}
@@ -226,7 +226,7 @@ SweepsAreInOrder profile config =
 abbrev pub ChangesFit : Profile → Config → Type 0
 ChangesFit profile config =
     (moves : List Move) (worker : ℕ) (w : Worker) → slice_get (reached profile config moves).workers worker ≡ Some w →
-    (fit_all profile w.committed w.owed ≡ true) × ((p : Pending) → w.pending ≡ Some p → fit_all profile w.committed (p.owed ++ p.changes) ≡ true)
+    (changes_fit profile w.committed w.owed ≡ true) × ((p : Pending) → w.pending ≡ Some p → changes_fit profile w.committed (p.owed ++ p.changes) ≡ true)
 
 -- all of them together
 pub record HoldAlways (profile : Profile) (config : Config) : Type 0 where

@@ -1,5 +1,32 @@
 -- The numbers of a track go up, so each is of one entry.
-use Rattle.std.proofs.Common.{◌≡◌, ℕ, zero, suc, ◌+◌, ◌≤◌, ◌<◌, Bool, true, false, if◌then◌else◌, List, [], ◌∷◌, ◌++◌, filter, slice_get, Option, Some, None, refl, sym, ap, subst, ◌∙◌, arith}
+use Rattle.std.proofs.Common.{
+  ◌≡◌,
+  ℕ,
+  zero,
+  suc,
+  ◌+◌,
+  ◌≤◌,
+  ◌<◌,
+  Bool,
+  true,
+  false,
+  if◌then◌else◌,
+  List,
+  [],
+  ◌∷◌,
+  ◌++◌,
+  filter,
+  slice_get,
+  Option,
+  Some,
+  None,
+  refl,
+  sym,
+  ap,
+  subst,
+  ◌∙◌,
+  arith,
+}
 use Rattle.std.proofs.lemmas.Option.{none-some, same_Some}
 use Rattle.session_model.specs.declared.entry.Entry.{Entry}
 use Rattle.session_model.specs.declared.entry.Kind.{Kind}
@@ -20,11 +47,13 @@ pub by_number2 : (es : List Entry) → numbers2 es ≡ numbers_by number2 es
 by_number2 [] = refl
 by_number2 (e ∷ es) = ap (with_number (number2 e.kind)) (by_number2 es)
 
-by-append : (number : Kind → Option ℕ) (es more : List Entry) → numbers_by number (es ++ more) ≡ numbers_by number es ++ numbers_by number more
+by-append : (number : Kind → Option ℕ) (es more : List Entry) → numbers_by number (es ++ more) ≡ numbers_by number es
+    ++ numbers_by number more
 by-append number [] more = refl
 by-append number (e ∷ es) more = ap (with_number (number e.kind)) (by-append number es more) ∙ by (number e.kind)
   where
-    by : (n : Option ℕ) → with_number n (numbers_by number es ++ numbers_by number more) ≡ with_number n (numbers_by number es) ++ numbers_by number more
+    by : (n : Option ℕ) → with_number n (numbers_by number es ++ numbers_by number more)
+        ≡ with_number n (numbers_by number es) ++ numbers_by number more
     by None = refl
     by (Some n) = refl
 
@@ -56,13 +85,15 @@ goes_up_lower lower low high (n ∷ ns) h up = let first = up.0 in (omega arith,
 pub some_go_up : (number : Kind → Option ℕ) (test : Entry → Bool) (low high : ℕ) (es : List Entry) →
     GoUp low high (numbers_by number es) → GoUp low high (numbers_by number (filter test es))
 some_go_up number test low high [] up = tt
-some_go_up number test low high (e ∷ es) up = by (test e) (number e.kind) refl up (λ from. some_go_up number test from high es)
+some_go_up number test low high (e ∷ es) up =
+    by (test e) (number e.kind) refl up (λ from. some_go_up number test from high es)
   where
     none : (n : Option ℕ) → GoUp low high (with_number n (numbers_by number es)) →
         ((from : ℕ) → GoUp from high (numbers_by number es) → GoUp from high (numbers_by number (filter test es))) →
         GoUp low high (numbers_by number (filter test es))
     none None up rest = rest low up
-    none (Some n) up rest = let first = up.0 in goes_up_lower low (n + 1) high (numbers_by number (filter test es)) (omega arith) (rest (n + 1) up.2)
+    none (Some n) up rest = let first =
+        up.0 in goes_up_lower low (n + 1) high (numbers_by number (filter test es)) (omega arith) (rest (n + 1) up.2)
 
     one : (n : Option ℕ) → GoUp low high (with_number n (numbers_by number es)) →
         ((from : ℕ) → GoUp from high (numbers_by number es) → GoUp from high (numbers_by number (filter test es))) →
@@ -70,7 +101,8 @@ some_go_up number test low high (e ∷ es) up = by (test e) (number e.kind) refl
     one None up rest = rest low up
     one (Some n) up rest = (up.0, up.1, rest (n + 1) up.2)
 
-    by : (b : Bool) (n : Option ℕ) → number e.kind ≡ n → GoUp low high (with_number (number e.kind) (numbers_by number es)) →
+    by : (b : Bool) (n : Option ℕ) → number e.kind ≡ n →
+        GoUp low high (with_number (number e.kind) (numbers_by number es)) →
         ((from : ℕ) → GoUp from high (numbers_by number es) → GoUp from high (numbers_by number (filter test es))) →
         GoUp low high (numbers_by number (if b then e ∷ filter test es else filter test es))
     by true n is up rest = one (number e.kind) up rest
@@ -83,7 +115,8 @@ step_up : (number : Option ℕ) (low high : ℕ) (ns : List ℕ) → GoUp low hi
 step_up None low high ns up = up
 step_up (Some n) low high ns up = let first = up.0 in goes_up_lower low (n + 1) high ns (omega arith) up.2
 
-pub number_between : (number : Kind → Option ℕ) (low high : ℕ) (es : List Entry) → GoUp low high (numbers_by number es) →
+pub number_between : (number : Kind → Option ℕ) (low high : ℕ) (es : List Entry) →
+    GoUp low high (numbers_by number es) →
     (i : ℕ) (e : Entry) (n : ℕ) → slice_get es i ≡ Some e → number e.kind ≡ Some n → (low ≤ n) × (n < high)
 number_between number low high [] up i e n at is = absurd (none-some e at)
 number_between number low high (x ∷ es) up zero e n at is =
@@ -95,7 +128,8 @@ number_between number low high (x ∷ es) up (suc i) e n at is =
 
 -- the same number is at the same place
 pub number_place : (number : Kind → Option ℕ) (low high : ℕ) (es : List Entry) → GoUp low high (numbers_by number es) →
-    (i j : ℕ) (e f : Entry) (n : ℕ) → slice_get es i ≡ Some e → slice_get es j ≡ Some f → number e.kind ≡ Some n → number f.kind ≡ Some n → i ≡ j
+    (i j : ℕ) (e f : Entry) (n : ℕ) → slice_get es i ≡ Some e → slice_get es j ≡ Some f → number e.kind ≡ Some n →
+    number f.kind ≡ Some n → i ≡ j
 number_place number low high [] up i j e f n at_i at_j is_e is_f = absurd (none-some e at_i)
 number_place number low high (x ∷ es) up zero zero e f n at_i at_j is_e is_f = refl
 number_place number low high (x ∷ es) up zero (suc j) e f n at_i at_j is_e is_f =
@@ -109,10 +143,13 @@ number_place number low high (x ∷ es) up (suc i) zero e f n at_i at_j is_e is_
     let later : n + 1 ≤ n = (number_between number (n + 1) high es first.2 i e n at_i is_e).0 in
     absurd (omega arith)
 number_place number low high (x ∷ es) up (suc i) (suc j) e f n at_i at_j is_e is_f =
-    ap (λ (k : ℕ). suc k) (number_place number low high es (step_up (number x.kind) low high (numbers_by number es) up) i j e f n at_i at_j is_e is_f)
+    ap (λ (k : ℕ). suc k)
+    (number_place number low high es
+    (step_up (number x.kind) low high (numbers_by number es) up) i j e f n at_i at_j is_e is_f)
 
 -- what a filter keeps passes its test
-pub kept_passes : (test : Entry → Bool) (es : List Entry) (i : ℕ) (e : Entry) → slice_get (filter test es) i ≡ Some e → test e ≡ true
+pub kept_passes : (test : Entry → Bool) (es : List Entry) (i : ℕ) (e : Entry) → slice_get (filter test es) i ≡ Some e →
+    test e ≡ true
 kept_passes test [] i e at = absurd (none-some e at)
 kept_passes test (x ∷ es) i e at = by (test x) refl i at (λ k. kept_passes test es k e)
   where

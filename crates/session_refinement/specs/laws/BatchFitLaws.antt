@@ -12,7 +12,7 @@ use Rattle.session_model.specs.PlainSession as session_model
 use Rattle.session_model.specs.Unfinished as plain
 use Rattle.session_model.specs.Unfinished.{kept_subscriptions}
 use Rattle.session_model.specs.Change as session
-use Rattle.session_model.specs.Acting.{act}
+use Rattle.session_model.specs.Acting.{act_one}
 use Rattle.session_model.specs.FitsSession as fits
 use Rattle.session_model.specs.FitsSession.{suits, is_live, has_sweep, go_on, ascend, has_left}
 use Rattle.seq_tracks.specs.declared.marks.TheConstants.{WIDEST_WINDOW}
@@ -109,13 +109,13 @@ found_suits kept plain client i entries (Some k) (Some m) alike ready is =
 
 pub batch_fits : (profile : Profile) (kept : KeptSessions) (plain : session_model.Sessions) (entries : List Entry) (client : List ℕ) (i : Issuing) → SessionsKeep kept plain →
     ((k : KeptSession) (m : PlainSession) → session_of client kept ≡ Some k → session_model.session_of client plain ≡ Some m → IsReadyFor k m i entries) →
-    fits.fits profile plain (plain_change entries (record { client = client; effect = Issued i })) ≡ true → kept_fits profile kept (record { client = client; effect = Issued i }) ≡ true
+    fits.change_fits profile plain (plain_change entries (record { client = client; effect = Issued i })) ≡ true → kept_fits profile kept (record { client = client; effect = Issued i }) ≡ true
 batch_fits profile kept plain entries client i h ready is =
     let c : Change = record { client = client; effect = Issued i } in
-    let parts = and_parts (fits.finds plain (session.Issued (plain_issues i entries)) (session_model.session_of client plain)) (fits.are_within profile (act plain (plain_change entries c))) is in
+    let parts = and_parts (fits.finds plain (session.Issued (plain_issues i entries)) (session_model.session_of client plain)) (fits.are_within profile (act_one plain (plain_change entries c))) is in
     and_from (kept_finds kept (Issued i) (session_of client kept)) (kept_are_within profile (kept_acted c kept))
     (found_suits kept plain client i entries (session_of client kept) (session_model.session_of client plain) (found_alike client kept.list plain.list h.list) ready parts.0)
-    (are_within_agree profile (kept_acted c kept) (act plain (plain_change entries c))
+    (are_within_agree profile (kept_acted c kept) (act_one plain (plain_change entries c))
     (acted_keeps kept plain entries client (Issued i) h parts.0 (λ m has. issued m has (session_of client kept) (session_model.session_of client plain) refl has (found_alike client kept.list plain.list h.list)))
     ∙ parts.1)
   where

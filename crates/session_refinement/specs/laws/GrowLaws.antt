@@ -10,7 +10,8 @@ use Rattle.shard_model.specs.Growing.{HasGrown}
 use Rattle.shard_model.specs.SweepOrder.{is_issued_by}
 use Rattle.shard_model.specs.Lists.{IsList}
 use Rattle.shard_model.specs.Wanted.{is_wanted}
-use Rattle.shard_model.specs.laws.PlaceLaws.{HasPlace, kept_place, place_kept}
+use Rattle.topic_model.specs.Places.{HasPlace}
+use Rattle.shard_model.specs.laws.PlaceLaws.{kept_place, place_kept}
 use Rattle.shard_model.specs.laws.OrderLaws.{newest_in_order, numbers_in_order}
 use Rattle.shard_model.specs.laws.GrownSweepLaws.{was_in, order_stays, counts_stay, none_of_new}
 use Rattle.session_model.specs.declared.entry.Entry.{Entry}

@@ -2,7 +2,7 @@
 use Rattle.std.proofs.Common.{◌≡◌, ℕ, suc, ◌+◌, Bool, true, false, ◌||◌, nat_lt, List, [], ◌∷◌, refl, sym, ap, ◌∙◌, arith}
 use Rattle.std.proofs.lemmas.Bool.{lt-ltb}
 use Rattle.topic_model.specs.StoredMessage.{StoredMessage}
-use Rattle.shard_model.specs.laws.PlaceLaws.{HasPlace}
+use Rattle.topic_model.specs.Places.{HasPlace}
 use Rattle.session_model.specs.declared.entry.Kind.{Kind}
 use Rattle.mqtt_props.specs.Sizes.{var_size}
 use Rattle.turn_model.specs.Delivery.{Reader, has_expired, is_own, is_kept_back, kind_for, silent_if, loud_kind, delivery_length, delivery_body_size}

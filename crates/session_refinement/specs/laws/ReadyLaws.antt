@@ -5,7 +5,8 @@ use Rattle.std.proofs.lemmas.Option.{none-some, same_Some}
 use Rattle.topic_model.specs.Profile.{Profile}
 use Rattle.shard_model.specs.declared.sweep.Sweep.{Sweep}
 use Rattle.shard_model.specs.ShardList.{ShardList}
-use Rattle.shard_model.specs.laws.PlaceLaws.{HasPlace, place_either}
+use Rattle.topic_model.specs.Places.{HasPlace}
+use Rattle.shard_model.specs.laws.PlaceLaws.{place_either}
 use Rattle.session_model.specs.PlainSession.{PlainSession, Subscription}
 use Rattle.session_state.specs.KeptSession.{KeptSession}
 use Rattle.turn_model.specs.PlainConnection.{PlainConnection}

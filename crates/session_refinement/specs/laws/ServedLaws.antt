@@ -8,7 +8,8 @@ use Rattle.shard_model.specs.ShardList.{ShardList, next_of}
 use Rattle.shard_model.specs.SweepOrder.{is_in_order, starting_sweep}
 use Rattle.shard_model.specs.Lists.{IsList}
 use Rattle.shard_model.specs.Wanted.{wanted}
-use Rattle.shard_model.specs.laws.PlaceLaws.{HasPlace, place_either, place_mapped, mapped_place}
+use Rattle.topic_model.specs.Places.{HasPlace}
+use Rattle.shard_model.specs.laws.PlaceLaws.{place_either, place_mapped, mapped_place}
 use Rattle.session_model.specs.PlainSession.{PlainSession, Subscription}
 use Rattle.session_model.specs.Change.{Subscribes}
 use Rattle.session_model.specs.Acting.{changed_if, subscribed_session}

@@ -171,7 +171,7 @@ on_keeps kept plain client f g m h same is does =
 -- ---- a change
 
 held : (kept : KeptSessions) (plain : session.Sessions) (entries : List Entry) (client : List ℕ) (effect : Effect) → SessionsKeep kept plain → (o : Option PlainSession) → session.session_of client plain ≡ o →
-    fits.begins plain (plain_effect entries effect) ≡ false → fits.finds plain (plain_effect entries effect) o ≡ true → ((m : PlainSession) → session.session_of client plain ≡ Some m → IsIssuedAs m effect entries) →
+    fits.may_begin plain (plain_effect entries effect) ≡ false → fits.finds plain (plain_effect entries effect) o ≡ true → ((m : PlainSession) → session.session_of client plain ≡ Some m → IsIssuedAs m effect entries) →
     SessionsKeep (record kept { list = on_session client (kept_changed effect) kept.list }) (record plain { list = acting.on_session client (changed_session (plain_effect entries effect)) plain.list })
 held kept plain entries client effect h None is no_begin found issued = absurd (true≢false (sym found ∙ no_begin))
 held kept plain entries client effect h (Some m) is no_begin found issued =
@@ -180,11 +180,11 @@ held kept plain entries client effect h (Some m) is no_begin found issued =
 
 pub acted_keeps : (kept : KeptSessions) (plain : session.Sessions) (entries : List Entry) (client : List ℕ) (effect : Effect) → SessionsKeep kept plain →
     fits.finds plain (plain_effect entries effect) (session.session_of client plain) ≡ true → ((m : PlainSession) → session.session_of client plain ≡ Some m → IsIssuedAs m effect entries) →
-    SessionsKeep (acted_on client effect kept) (acting.acted client (plain_effect entries effect) plain)
+    SessionsKeep (acted_on client effect kept) (acting.act_effect client (plain_effect entries effect) plain)
 acted_keeps kept plain entries client (Began b) h found issued = by (session.session_of client plain) refl found
   where
     by : (o : Option PlainSession) → session.session_of client plain ≡ o → fits.finds plain (plain_effect entries (Began b)) o ≡ true →
-        SessionsKeep (acted_on client (Began b) kept) (acting.acted client (plain_effect entries (Began b)) plain)
+        SessionsKeep (acted_on client (Began b) kept) (acting.act_effect client (plain_effect entries (Began b)) plain)
     by (Some m) is found = absurd (true≢false (sym found))
     by None is found =
         record {
@@ -261,7 +261,7 @@ finds_agree kept plain entries effect single h (Some k) (Some m) alike = suits_a
 
 -- a change but a batch fits the kept sessions exactly where it fits the plain ones
 pub fits_agree : (profile : Profile) (kept : KeptSessions) (plain : session.Sessions) (entries : List Entry) (c : Change) → is_no_batch c.effect ≡ true → SessionsKeep kept plain →
-    kept_fits profile kept c ≡ fits.fits profile plain (plain_change entries c)
+    kept_fits profile kept c ≡ fits.change_fits profile plain (plain_change entries c)
 fits_agree profile kept plain entries c single h =
     ap (λ b. b && kept_are_within profile (kept_acted c kept)) found
     ∙ by (fits.finds plain (plain_effect entries c.effect) (session.session_of c.client plain)) refl
@@ -272,8 +272,8 @@ fits_agree profile kept plain entries c single h =
         (found_alike c.client kept.list plain.list h.list)
 
     by : (b : Bool) → fits.finds plain (plain_effect entries c.effect) (session.session_of c.client plain) ≡ b →
-        (b && kept_are_within profile (kept_acted c kept)) ≡ (b && fits.are_within profile (acting.act plain (plain_change entries c)))
+        (b && kept_are_within profile (kept_acted c kept)) ≡ (b && fits.are_within profile (acting.act_one plain (plain_change entries c)))
     by false is = refl
     by true is =
-        are_within_agree profile (kept_acted c kept) (acting.act plain (plain_change entries c))
+        are_within_agree profile (kept_acted c kept) (acting.act_one plain (plain_change entries c))
         (acted_keeps kept plain entries c.client c.effect h is (λ m has. no_entries m c.effect entries single))

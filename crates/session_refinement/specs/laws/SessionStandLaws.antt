@@ -54,7 +54,7 @@ module _ (profile : Profile) (lists : List ShardList) where
   standing_keeps kept plain h = record { list = keep_each kept.list plain.list h.list; next = h.next; distinct = h.distinct }
 
   held : (kept : KeptSessions) (plain : session.Sessions) (entries : List Entry) (client : List ℕ) (effect : Effect) → AreLists lists → SessionsStandFor profile lists kept plain →
-      (o : Option PlainSession) → session.session_of client plain ≡ o → fits.begins plain (plain_effect entries effect) ≡ false → fits.finds plain (plain_effect entries effect) o ≡ true →
+      (o : Option PlainSession) → session.session_of client plain ≡ o → fits.may_begin plain (plain_effect entries effect) ≡ false → fits.finds plain (plain_effect entries effect) o ≡ true →
       ((m : PlainSession) → session.session_of client plain ≡ Some m → IsOver profile lists m effect entries) →
       SessionsStandFor profile lists (record kept { list = on_session client (kept_changed effect) kept.list }) (record plain { list = acting.on_session client (changed_session (plain_effect entries effect)) plain.list })
   held kept plain entries client effect are h None is no_begin found over = absurd (true≢false (sym found ∙ no_begin))
@@ -69,11 +69,11 @@ module _ (profile : Profile) (lists : List ShardList) where
 
   pub acted_stands : (kept : KeptSessions) (plain : session.Sessions) (entries : List Entry) (client : List ℕ) (effect : Effect) → AreLists lists → SessionsStandFor profile lists kept plain →
       fits.finds plain (plain_effect entries effect) (session.session_of client plain) ≡ true → ((m : PlainSession) → session.session_of client plain ≡ Some m → IsOver profile lists m effect entries) →
-      SessionsStandFor profile lists (acted_on client effect kept) (acting.acted client (plain_effect entries effect) plain)
+      SessionsStandFor profile lists (acted_on client effect kept) (acting.act_effect client (plain_effect entries effect) plain)
   acted_stands kept plain entries client (Began b) are h found over = by (session.session_of client plain) refl found
     where
       by : (o : Option PlainSession) → session.session_of client plain ≡ o → fits.finds plain (plain_effect entries (Began b)) o ≡ true →
-          SessionsStandFor profile lists (acted_on client (Began b) kept) (acting.acted client (plain_effect entries (Began b)) plain)
+          SessionsStandFor profile lists (acted_on client (Began b) kept) (acting.act_effect client (plain_effect entries (Began b)) plain)
       by (Some m) is found = absurd (true≢false (sym found))
       by None is found =
           record {

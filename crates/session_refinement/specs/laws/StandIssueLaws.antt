@@ -9,7 +9,8 @@ use Rattle.shard_model.specs.declared.sweep.Sweep.{Sweep}
 use Rattle.shard_model.specs.ShardList.{ShardList, newest, next_of}
 use Rattle.shard_model.specs.SweepOrder.{is_issued_by, is_in_order}
 use Rattle.shard_model.specs.Wanted.{wanted}
-use Rattle.shard_model.specs.laws.PlaceLaws.{HasPlace, mapped_place}
+use Rattle.topic_model.specs.Places.{HasPlace}
+use Rattle.shard_model.specs.laws.PlaceLaws.{mapped_place}
 use Rattle.session_model.specs.declared.entry.Entry.{Entry}
 use Rattle.session_model.specs.PlainSession.{PlainSession, Subscription, subscription_numbered}
 use Rattle.session_model.specs.Change as session

@@ -10,7 +10,8 @@ use Rattle.shard_model.specs.SweepOrder.{starting_sweep, is_in_order, end_in}
 use Rattle.shard_model.specs.Lists.{IsList, IsRow}
 use Rattle.shard_model.specs.laws.ListLaws.{newest_number}
 use Rattle.shard_model.specs.Wanted.{wanted, is_wanted}
-use Rattle.shard_model.specs.laws.PlaceLaws.{HasPlace, kept_place, counted_place}
+use Rattle.topic_model.specs.Places.{HasPlace}
+use Rattle.shard_model.specs.laws.PlaceLaws.{kept_place, counted_place}
 
 -- the newest generation ends where the list does
 end_of_newest : (list : ShardList) (end : ℕ) (cuts : List Cut) → IsRow end cuts → end_in list cuts (newest_of cuts).number ≡ next_of list

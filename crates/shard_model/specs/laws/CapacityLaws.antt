@@ -1,5 +1,26 @@
 -- What is learned of few topics keeps within the streams and the nodes of a generation, whatever it is.
-use Rattle.std.proofs.Common.{◌≡◌, ℕ, ◌+◌, ◌≤◌, Bool, true, false, ◌&&◌, leb, if◌then◌else◌, List, [], ◌∷◌, ◌++◌, length, refl, sym, ap, ◌∙◌, arith}
+use Rattle.std.proofs.Common.{
+  ◌≡◌,
+  ℕ,
+  ◌+◌,
+  ◌≤◌,
+  Bool,
+  true,
+  false,
+  ◌&&◌,
+  leb,
+  if◌then◌else◌,
+  List,
+  [],
+  ◌∷◌,
+  ◌++◌,
+  length,
+  refl,
+  sym,
+  ap,
+  ◌∙◌,
+  arith,
+}
 use Rattle.std.specs.List.{sum_by}
 use Rattle.std.proofs.lemmas.Bool.{leb-true, le-leb}
 use Rattle.std.proofs.lemmas.List.{length-append}
@@ -7,7 +28,22 @@ use Rattle.std.proofs.lemmas.List.Sums.{sum_by-cons, sum_by_push}
 use Rattle.topic_model.specs.Profile.{Profile}
 use Rattle.topic_model.specs.StoredMessage.{StoredMessage}
 use Rattle.shard_model.specs.ShardList.{Cut}
-use Rattle.shard_model.specs.LearnedPath.{Path, Tokens, edge_for, threshold, edges_at, path_from, has_path, with_path, learn_topic, learned, with_each, prefixes_from, nodes_from, nodes_of}
+use Rattle.shard_model.specs.LearnedPath.{
+  Path,
+  Tokens,
+  edge_for,
+  threshold,
+  edges_at,
+  path_from,
+  has_path,
+  with_path,
+  learn_topic,
+  patterns_after,
+  with_each,
+  prefixes_from,
+  nodes_from,
+  nodes_of,
+}
 use Rattle.shard_model.specs.Streams.{topics_of, patterns_if, patterns_in}
 use Rattle.shard_model.specs.Capacity.{learns_within, levels_of_all, are_few, learns_few_or_within}
 use Rattle.shard_model.specs.laws.PatternLaws.{both_true}
@@ -24,7 +60,8 @@ abbrev topic_size : StoredMessage → ℕ
 topic_size m = 1 + length m.topic
 
 -- a path is as long as its topic
-path_length : (top below : ℕ) (paths : List Path) (node : Path) (topic : Tokens) → length (path_from top below paths node topic) ≡ length topic
+path_length : (top below : ℕ) (paths : List Path) (node : Path) (topic : Tokens) →
+    length (path_from top below paths node topic) ≡ length topic
 path_length top below paths node [] = refl
 path_length top below paths node (token ∷ tokens) =
     let edge = edge_for (threshold top below node) token (edges_at node paths []) in
@@ -46,14 +83,16 @@ with_levels path paths = by (has_path paths path)
     by false = omega (arith, sum_by_push size paths path)
 
 module _ (top below : ℕ) where
-  learned_length : (paths : List Path) (ms : List StoredMessage) → length (learned top below paths (topics_of ms)) ≤ length paths + length ms
+  learned_length : (paths : List Path) (ms : List StoredMessage) →
+      length (patterns_after top below paths (topics_of ms)) ≤ length paths + length ms
   learned_length paths [] = omega arith
   learned_length paths (m ∷ ms) =
       let first = with_length (path_from top below paths [] m.topic) paths in
       let rest = learned_length (learn_topic top below paths m.topic) ms in
       omega (arith, first, rest)
 
-  learned_levels : (paths : List Path) (ms : List StoredMessage) → levels (learned top below paths (topics_of ms)) ≤ levels paths + levels_of_all ms
+  learned_levels : (paths : List Path) (ms : List StoredMessage) →
+      levels (patterns_after top below paths (topics_of ms)) ≤ levels paths + levels_of_all ms
   learned_levels paths [] = omega arith
   learned_levels paths (m ∷ ms) =
       let same = path_length top below paths [] m.topic in
@@ -84,31 +123,38 @@ nodes_length nodes (path ∷ paths) =
 
 -- ---- both limits
 
-patterns_few : (learns : Bool) (cut : Cut) (ms : List StoredMessage) → length (patterns_if learns cut ms) ≤ 1 + length ms
+patterns_few : (learns : Bool) (cut : Cut) (ms : List StoredMessage) →
+    length (patterns_if learns cut ms) ≤ 1 + length ms
 patterns_few true cut ms = let few = learned_length cut.top cut.below [] ms in omega (arith, few)
 patterns_few false cut ms = omega arith
 
-nodes_few : (learns : Bool) (cut : Cut) (ms : List StoredMessage) → length (nodes_of (patterns_if learns cut ms)) ≤ 2 + levels_of_all ms
+nodes_few : (learns : Bool) (cut : Cut) (ms : List StoredMessage) →
+    length (nodes_of (patterns_if learns cut ms)) ≤ 2 + levels_of_all ms
 nodes_few true cut ms =
-    let few = nodes_length ([] ∷ []) (learned cut.top cut.below [] (topics_of ms)) in
+    let few = nodes_length ([] ∷ []) (patterns_after cut.top cut.below [] (topics_of ms)) in
     let all = learned_levels cut.top cut.below [] ms in
     omega (arith, few, all)
 nodes_few false cut ms = omega arith
 
-few_are_within : (profile : Profile) (cut : Cut) (ms : List StoredMessage) → are_few profile ms ≡ true → learns_within profile cut ms ≡ true
+few_are_within : (profile : Profile) (cut : Cut) (ms : List StoredMessage) → are_few profile ms ≡ true →
+    learns_within profile cut ms ≡ true
 few_are_within profile cut ms few =
     let both = both_true (leb (1 + length ms) profile.streams) (leb (2 + levels_of_all ms) profile.nodes) few in
     let streams = leb-true (1 + length ms) profile.streams both.0 in
     let nodes = leb-true (2 + levels_of_all ms) profile.nodes both.1 in
     let patterns = patterns_few profile.learns cut ms in
     let tree = nodes_few profile.learns cut ms in
-    let first : leb (length (patterns_in profile cut ms)) profile.streams ≡ true = le-leb (length (patterns_in profile cut ms)) profile.streams (omega (arith, streams, patterns)) in
-    let second : leb (length (nodes_of (patterns_in profile cut ms))) profile.nodes ≡ true = le-leb (length (nodes_of (patterns_in profile cut ms))) profile.nodes (omega (arith, nodes, tree)) in
+    let first : leb (length (patterns_in profile cut ms)) profile.streams ≡ true =
+    le-leb (length (patterns_in profile cut ms)) profile.streams (omega (arith, streams, patterns)) in
+    let second : leb (length (nodes_of (patterns_in profile cut ms))) profile.nodes ≡ true =
+    le-leb (length (nodes_of (patterns_in profile cut ms))) profile.nodes (omega (arith, nodes, tree)) in
     ap (λ (b : Bool). b && leb (length (nodes_of (patterns_in profile cut ms))) profile.nodes) first ∙ second
 
-pub few_or_within : (profile : Profile) (cut : Cut) (ms : List StoredMessage) → learns_few_or_within profile cut ms ≡ learns_within profile cut ms
+pub few_or_within : (profile : Profile) (cut : Cut) (ms : List StoredMessage) →
+    learns_few_or_within profile cut ms ≡ learns_within profile cut ms
 few_or_within profile cut ms = by (are_few profile ms) refl
   where
-    by : (b : Bool) → are_few profile ms ≡ b → elim b as (λ few. Bool) [ true ↦ true | false ↦ learns_within profile cut ms ] ≡ learns_within profile cut ms
+    by : (b : Bool) → are_few profile ms ≡ b →
+        elim b as (λ few. Bool) [ true ↦ true | false ↦ learns_within profile cut ms ] ≡ learns_within profile cut ms
     by true few = sym (few_are_within profile cut ms few)
     by false few = refl

@@ -1,10 +1,35 @@
 -- How the levels of a text come from its first separator, that they join to the text again, and how many they are.
-use Rattle.std.proofs.Common.{◌≡◌, ℕ, suc, ◌+◌, ◌<◌, Bool, true, false, not, cond, eqb, List, [], ◌∷◌, length, take, drop, refl, sym, ap, ◌∙◌, arith, one-add, add-one}
+use Rattle.std.proofs.Common.{
+  ◌≡◌,
+  ℕ,
+  suc,
+  ◌+◌,
+  ◌<◌,
+  Bool,
+  true,
+  false,
+  not,
+  cond,
+  eqb,
+  List,
+  [],
+  ◌∷◌,
+  length,
+  take,
+  drop,
+  refl,
+  sym,
+  ap,
+  ◌∙◌,
+  arith,
+  one-add,
+  add-one,
+}
 use Rattle.std.specs.Prelude.{count_by}
 use Rattle.std.specs.List.{position_or_len, before_first, after_first}
 use Rattle.std.proofs.lemmas.Bool.{eqb-true, true≢false}
 use Rattle.std.proofs.lemmas.List.Sums.{sum_by-cons}
-use Rattle.topic_model.specs.Levels.{pieces, onto_first, joined, levels_of, text_of_levels}
+use Rattle.topic_model.specs.Levels.{pieces, onto_first, joined_by, levels_of, text_of_levels}
 use Rattle.topic_model.specs.Matching.{is_last}
 
 -- ---- the first separator
@@ -14,7 +39,8 @@ abbrev pub parts : ℕ → ℕ → Bool
 parts separator b = eqb b separator
 
 -- one more element in front moves the first separator by one
-further : (separator x : ℕ) (xs : List ℕ) (n : ℕ) (ps : List (List ℕ)) → ps ≡ take n xs ∷ pieces separator (drop (n + 1) xs) →
+further : (separator x : ℕ) (xs : List ℕ) (n : ℕ) (ps : List (List ℕ)) →
+    ps ≡ take n xs ∷ pieces separator (drop (n + 1) xs) →
     onto_first x ps ≡ take (1 + n) (x ∷ xs) ∷ pieces separator (drop (1 + n + 1) (x ∷ xs))
 further separator x xs n ps cut = rw (cut, one-add, add-one, add-one) refl
 
@@ -25,15 +51,19 @@ pieces_at_first separator [] within = absurd (omega arith)
 pieces_at_first separator (x ∷ xs) within = by (eqb x separator) within (pieces_at_first separator xs)
   where
     by : (b : Bool) → cond (not b) (1 + position_or_len (parts separator) xs) 0 < suc (length xs) →
-        (position_or_len (parts separator) xs < length xs → pieces separator xs ≡ before_first (parts separator) xs ∷ pieces separator (after_first (parts separator) xs)) →
+        (position_or_len (parts separator) xs < length xs →
+        pieces separator xs ≡ before_first (parts separator) xs
+        ∷ pieces separator (after_first (parts separator) xs)) →
         cond b ([] ∷ pieces separator xs) (onto_first x (pieces separator xs))
         ≡ take (cond (not b) (1 + position_or_len (parts separator) xs) 0) (x ∷ xs)
         ∷ pieces separator (drop (cond (not b) (1 + position_or_len (parts separator) xs) 0 + 1) (x ∷ xs))
     by true within rest = refl
-    by false within rest = further separator x xs (position_or_len (parts separator) xs) (pieces separator xs) (rest (omega arith))
+    by false within rest = further separator x xs (position_or_len (parts separator) xs) (pieces separator xs)
+        (rest (omega arith))
 
 -- a list without the separator is one piece
-pub pieces_whole : (separator : ℕ) (xs : List ℕ) → position_or_len (parts separator) xs ≡ length xs → pieces separator xs ≡ xs ∷ []
+pub pieces_whole : (separator : ℕ) (xs : List ℕ) → position_or_len (parts separator) xs ≡ length xs →
+    pieces separator xs ≡ xs ∷ []
 pieces_whole separator [] whole = refl
 pieces_whole separator (x ∷ xs) whole = by (eqb x separator) whole (pieces_whole separator xs)
   where
@@ -46,13 +76,15 @@ pieces_whole separator (x ∷ xs) whole = by (eqb x separator) whole (pieces_who
 -- ---- joining
 
 -- one more element at the front of the first piece is one more at the front of the whole
-joined-onto_first : (separator x : ℕ) (ps : List (List ℕ)) → joined separator (onto_first x ps) ≡ x ∷ joined separator ps
+joined-onto_first : (separator x : ℕ) (ps : List (List ℕ)) →
+    joined_by separator (onto_first x ps) ≡ x ∷ joined_by separator ps
 joined-onto_first separator x [] = refl
 joined-onto_first separator x (p ∷ []) = refl
 joined-onto_first separator x (p ∷ (q ∷ ps)) = refl
 
 -- an empty piece before others puts a separator at the front
-joined-empty : (separator : ℕ) (ps : List (List ℕ)) → is_last ps ≡ false → joined separator ([] ∷ ps) ≡ separator ∷ joined separator ps
+joined-empty : (separator : ℕ) (ps : List (List ℕ)) → is_last ps ≡ false →
+    joined_by separator ([] ∷ ps) ≡ separator ∷ joined_by separator ps
 joined-empty separator [] some = absurd (true≢false some)
 joined-empty separator (p ∷ ps) some = refl
 
@@ -70,14 +102,15 @@ some_piece separator (x ∷ xs) = by (eqb x separator)
     by false = is_last-onto_first x (pieces separator xs)
 
 -- joining undoes the cut
-pub joined-pieces : (separator : ℕ) (xs : List ℕ) → joined separator (pieces separator xs) ≡ xs
+pub joined-pieces : (separator : ℕ) (xs : List ℕ) → joined_by separator (pieces separator xs) ≡ xs
 joined-pieces separator [] = refl
 joined-pieces separator (x ∷ xs) = by (eqb x separator) refl (joined-pieces separator xs)
   where
-    by : (b : Bool) → eqb x separator ≡ b → joined separator (pieces separator xs) ≡ xs →
-        joined separator (cond b ([] ∷ pieces separator xs) (onto_first x (pieces separator xs))) ≡ x ∷ xs
+    by : (b : Bool) → eqb x separator ≡ b → joined_by separator (pieces separator xs) ≡ xs →
+        joined_by separator (cond b ([] ∷ pieces separator xs) (onto_first x (pieces separator xs))) ≡ x ∷ xs
     by true here rest =
-        joined-empty separator (pieces separator xs) (some_piece separator xs) ∙ ap (λ ys. separator ∷ ys) rest ∙ ap (λ y. y ∷ xs) (sym (eqb-true x separator here))
+        joined-empty separator (pieces separator xs) (some_piece separator xs) ∙ ap (λ ys. separator ∷ ys) rest
+        ∙ ap (λ y. y ∷ xs) (sym (eqb-true x separator here))
     by false here rest = joined-onto_first separator x (pieces separator xs) ∙ ap (λ ys. x ∷ ys) rest
 
 -- the text of a text's levels is that text
@@ -94,10 +127,12 @@ length-onto_first x (p ∷ ps) some = refl
 pub length-pieces : (separator : ℕ) (xs : List ℕ) → length (pieces separator xs) ≡ count_by (parts separator) xs + 1
 length-pieces separator [] = refl
 length-pieces separator (x ∷ xs) =
-    by (eqb x separator) (length-pieces separator xs) ∙ ap (λ n. n + 1) (sym (sum_by-cons (λ b. cond (parts separator b) 1 0) x xs))
+    by (eqb x separator) (length-pieces separator xs)
+    ∙ ap (λ n. n + 1) (sym (sum_by-cons (λ b. cond (parts separator b) 1 0) x xs))
   where
     by : (b : Bool) → length (pieces separator xs) ≡ count_by (parts separator) xs + 1 →
-        length (cond b ([] ∷ pieces separator xs) (onto_first x (pieces separator xs))) ≡ cond b 1 0 + count_by (parts separator) xs + 1
+        length (cond b ([] ∷ pieces separator xs) (onto_first x (pieces separator xs)))
+        ≡ cond b 1 0 + count_by (parts separator) xs + 1
     by true rest = omega arith
     by false rest = length-onto_first x (pieces separator xs) (some_piece separator xs) ∙ omega arith
 

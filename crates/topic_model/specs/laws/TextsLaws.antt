@@ -6,7 +6,18 @@ use Rattle.std.proofs.lemmas.Bool.Decides.{nat_tests}
 use Rattle.topic_model.specs.declared.refused.TopicRefused.TheVariants as Topic
 use Rattle.topic_model.specs.declared.refused.FilterRefused.TheVariants as Filter
 use Rattle.topic_model.specs.Levels.{levels_of}
-use Rattle.topic_model.specs.Texts.{most_levels, most_filter, is_empty, has, has_wildcard, has_many_levels, is_bad_plus, has_bad_hash, topic_refusal, filter_refusal}
+use Rattle.topic_model.specs.Texts.{
+  most_levels,
+  most_filter,
+  is_empty,
+  has,
+  has_wildcard,
+  has_many_levels,
+  is_bad_plus,
+  has_bad_hash,
+  topic_refusal,
+  filter_refusal,
+}
 
 -- none of the reasons why a text is no topic name
 pub record IsTopicText (text : List ℕ) : Type 0 where
@@ -25,7 +36,8 @@ pub record IsFilterText (text : List ℕ) : Type 0 where
   pub hash_alone_and_last : has_bad_hash (levels_of text) ≡ false
 
 -- where the answer is none, neither the first reason holds nor a later one
-passed : {T : Type 0} (reason : Bool) (refused : T) (others : Option T) → (if reason then Some refused else others) ≡ None →
+passed : {T : Type 0} (reason : Bool) (refused : T) (others : Option T) →
+    (if reason then Some refused else others) ≡ None →
     (reason ≡ false) × (others ≡ None)
 passed true refused others none = cc none
 passed false refused others none = (refl, none)

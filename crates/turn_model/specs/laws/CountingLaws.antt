@@ -11,7 +11,8 @@ use Rattle.shard_model.specs.Growing.{HasGrown}
 use Rattle.shard_model.specs.Lists.{IsList}
 use Rattle.shard_model.specs.Wanted.{is_wanted}
 use Rattle.shard_model.specs.SweepOrder.{Run, is_issued_by, is_in_order}
-use Rattle.shard_model.specs.laws.PlaceLaws.{HasPlace, kept_place, place_kept}
+use Rattle.topic_model.specs.Places.{HasPlace}
+use Rattle.shard_model.specs.laws.PlaceLaws.{kept_place, place_kept}
 use Rattle.shard_model.specs.laws.GrownSweepLaws.{was_in, counts_stay, none_of_new}
 use Rattle.turn_model.specs.Delivery.{Reader, kind_for}
 use Rattle.turn_model.specs.Batch.{entries_from, count1, count2, next1_of, next2_of}

@@ -14,7 +14,7 @@ use Rattle.session_model.specs.Change.{Issues}
 use Rattle.turn_model.specs.Delivery.{Reader, has_expired, kind_for}
 use Rattle.turn_model.specs.PlainConnection.{rest_of}
 use Rattle.turn_model.specs.Batch.{pump_limit, count1, count2, entries_from, bytes_from, packets_from, next1_of, next2_of, is_alike}
-use Rattle.shard_model.specs.laws.PlaceLaws.{HasPlace}
+use Rattle.topic_model.specs.Places.{HasPlace}
 use Rattle.turn_model.specs.MayIssue.{Issuing, reader_of, wanted_by, was_issued, Ascend, MayIssue, same_kind, same_entry, same_entries, with_message, messages_of, are_ascending, left_to_issue, is_first, without_message, come_in_turn, all_alike, is_none_left, may_issue_these, may_issue_as}
 use Rattle.turn_model.specs.laws.RisingLaws.{stands_cases, behind, in_front, same_offset, AllIn, stands_nowhere, ascend_behind, above, one_offset, filter_within, filter_has, filter_ascends, NoneEarlier, none_earlier, has_first, comes_first, without_within, without_others, without_ascends, without_it}
 

@@ -8,7 +8,8 @@ use Rattle.topic_model.specs.Profile.{Profile}
 use Rattle.topic_model.specs.StoredMessage.{StoredMessage}
 use Rattle.shard_model.specs.declared.sweep.Sweep.{Sweep}
 use Rattle.shard_model.specs.SweepOrder.{Run, is_issued_by, sweep_after, is_in_order}
-use Rattle.shard_model.specs.laws.PlaceLaws.{HasPlace, place_taken, place_within, taken_before}
+use Rattle.topic_model.specs.Places.{HasPlace}
+use Rattle.shard_model.specs.laws.PlaceLaws.{place_taken, place_within, taken_before}
 use Rattle.shard_model.specs.NextRun.{IsNextRun}
 use Rattle.shard_model.specs.laws.NextRunLaws.{next_run_is}
 use Rattle.turn_model.specs.Delivery.{Reader, kind_for}

@@ -6,7 +6,8 @@ use Rattle.topic_model.specs.Profile.{Profile}
 use Rattle.shard_model.specs.declared.sweep.Sweep.{Sweep}
 use Rattle.shard_model.specs.ShardList.{ShardList}
 use Rattle.shard_model.specs.SweepOrder.{Run, next_run}
-use Rattle.shard_model.specs.laws.PlaceLaws.{HasPlace, place_left, place_right, place_either, place_kept, kept_place}
+use Rattle.topic_model.specs.Places.{HasPlace}
+use Rattle.shard_model.specs.laws.PlaceLaws.{place_left, place_right, place_either, place_kept, kept_place}
 use Rattle.shard_model.specs.laws.NextRunLaws.{none_is_left}
 use Rattle.session_model.specs.declared.entry.Version.{Version}
 use Rattle.session_model.specs.PlainSession.{PlainSession, Subscription, version_numbered}

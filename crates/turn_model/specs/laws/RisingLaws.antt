@@ -8,7 +8,7 @@ use Rattle.shard_model.specs.ShardList.{floor_of}
 use Rattle.shard_model.specs.Lists.{IsList}
 use Rattle.shard_model.specs.SweepOrder.{counted_from}
 use Rattle.shard_model.specs.Wanted.{is_wanted, same_topic}
-use Rattle.shard_model.specs.laws.PlaceLaws.{HasPlace}
+use Rattle.topic_model.specs.Places.{HasPlace}
 use Rattle.turn_model.specs.MayIssue.{Issuing, wanted_by, Ascend, is_first, without_message}
 
 -- ---- messages that stand in a list with rising offsets

@@ -6,7 +6,7 @@ use Rattle.topic_model.specs.Texts.{filter_refusal}
 use Rattle.mqtt_props.specs.Lookup.{first_of, var_in, or_default}
 use Rattle.session_model.specs.PlainSession.{PlainSession, Subscription, Sessions, session_of}
 use Rattle.session_model.specs.Change.{Change, Effect, Unsubscribed, Acked, Received, Done, change}
-use Rattle.session_model.specs.Acting.{act, act_all}
+use Rattle.session_model.specs.Acting.{act_one, act_all}
 use Rattle.session_model.specs.laws.OtherLaws.{keeps_client, other_stays}
 use Rattle.mqtt_packet.specs.declared.packet.Wish.{Wish}
 use Rattle.mqtt_packet.specs.declared.packet.AckKind.{AckKind}
@@ -37,7 +37,7 @@ pub others_after : (sessions : Sessions) (client other : List ℕ) (changes : Li
     session_of other (act_all sessions changes) ≡ session_of other sessions
 others_after sessions client other [] differ are = refl
 others_after sessions client other (c ∷ changes) differ are =
-    others_after (act sessions c) client other changes differ are.1
+    others_after (act_one sessions c) client other changes differ are.1
     ∙ other_stays sessions c.client other c.effect (ap (λ its. bytes_eq its other) are.0 ∙ differ)
 
 -- ---- SUBSCRIBE and UNSUBSCRIBE

@@ -4,10 +4,10 @@ use Rattle.std.proofs.lemmas.List.{append-nil}
 use Rattle.topic_model.specs.Profile.{Profile, Config}
 use Rattle.topic_model.specs.StoredMessage.{StoredMessage}
 use Rattle.shard_model.specs.Storing.{Op}
-use Rattle.shard_model.specs.ShardMoves.{Shard, ShardMove, Pending, Nothing, AGroup, is_nothing, if_group, may_store, shard_step, begin_if}
+use Rattle.shard_model.specs.ShardMoves.{Shard, ShardMove, PendingChange, Nothing, AGroup, pends_nothing, if_group, may_store, shard_step, begin_if}
 use Rattle.shard_model.specs.ShardMoves as Shards
 use Rattle.shard_model.specs.AllowedMoves.{shard_allows}
-use Rattle.shard_model.specs.AllowedMoves as ShardLaws
+use Rattle.shard_model.specs.laws.AllowedMoveLaws as ShardLaws
 use Rattle.mqtt_packet.specs.Packet.{PlainPacket}
 use Rattle.turn_model.specs.Step.{Ask}
 use Rattle.turn_model.specs.Worker.{Worker, Out, setting_of, connection_in, session_in}
@@ -44,7 +44,7 @@ module _ (profile : Profile) (config : Config) where
       ap (λ (x : Shard). begun profile config asked s.shard x s) (ShardLaws.not_allowed profile config s.shard (Shards.Begin ops now) never)
       ∙ keeps s.shard.pending
     where
-      keeps : (p : Pending) → record s { shard = s.shard; asked = if is_nothing p && if_group p then Some asked else s.asked } ≡ s
+      keeps : (p : PendingChange) → record s { shard = s.shard; asked = if pends_nothing p && if_group p then Some asked else s.asked } ≡ s
       keeps Nothing = refl
       keeps (AGroup others moment) = refl
       keeps (Shards.ACut moment) = refl

@@ -1,4 +1,4 @@
-use Rattle.shard_model.specs.AllowedMoves.{not_allowed}
+use Rattle.shard_model.specs.laws.AllowedMoveLaws.{not_allowed}
 use Rattle.shard_model.proofs.allowed.only_allowed_moves_move.Goals as goal
 
 pub returns : goal.returns
