@@ -1,7 +1,7 @@
 // A session in short words.
 use seq_tracks::Tracks;
-use session_state::{Batch, Session, Sessions, Sub};
 use session_model::Version;
+use session_state::{Batch, Session, Sessions, Sub};
 use std::alloc::{AllocError, Global};
 
 // `parted` as its moment, or `-` where a connection holds the session.

@@ -1,6 +1,24 @@
 -- Bytes as examples give them: by their hexadecimal digits, with spaces between fields.
-use Rattle.std.specs.Prelude.{ℕ, ◌+◌, ◌-◌, ◌*◌, ◌==◌, nat_lt, if◌then◌else◌, true, false, List, [], ◌∷◌, Option, Some,
-    None, codes, ◌≡◌, refl}
+use Rattle.std.specs.Prelude.{
+  ℕ,
+  ◌+◌,
+  ◌-◌,
+  ◌*◌,
+  ◌==◌,
+  nat_lt,
+  if◌then◌else◌,
+  true,
+  false,
+  List,
+  [],
+  ◌∷◌,
+  Option,
+  Some,
+  None,
+  codes,
+  ◌≡◌,
+  refl,
+}
 
 abbrev pub digit : ℕ → ℕ
 digit c = if nat_lt c 58 then c - 48 else c - 55

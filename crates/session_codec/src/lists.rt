@@ -10,8 +10,8 @@ use crate::numbers::put_numbers;
 use crate::parts::{batch_in, sweeps_in, version_in};
 use crate::putting::{put_batch, put_filter_and_sweeps, put_version};
 use crate::refused::CodecRefused;
-use session_state::{Batch, Sub};
 use session_model::Version;
+use session_state::{Batch, Sub};
 use std::alloc::{AllocError, Global};
 use wire_fields::put_u16;
 

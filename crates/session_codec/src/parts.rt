@@ -4,8 +4,8 @@ ghost use Rattle.session_codec.specs.Taking.{TakesPart};
 
 use crate::fields::{byte_in, eight_in, four_in, two_in};
 use crate::refused::CodecRefused;
-use session_state::Batch;
 use session_model::Version;
+use session_state::Batch;
 use shard_model::Sweep;
 use std::alloc::Global;
 

@@ -6,8 +6,8 @@ ghost use Rattle.session_codec.specs.Taking.{Puts};
 
 use crate::numbers::Number::{Eight, Four, One, Two};
 use crate::numbers::put_numbers;
-use session_state::Batch;
 use session_model::Version;
+use session_state::Batch;
 use shard_model::Sweep;
 use std::alloc::AllocError;
 use topic_name::Filter;

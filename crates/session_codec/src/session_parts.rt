@@ -4,8 +4,8 @@ ghost use Rattle.session_codec.specs.Taking.{GivesPart};
 
 use crate::refused::CodecRefused;
 use seq_tracks::Tracks;
-use session_state::{Batch, Session, SessionParts, Sub};
 use session_model::Version;
+use session_state::{Batch, Session, SessionParts, Sub};
 use topic_name::Name;
 
 /// Whose session it is, and what its connection told.

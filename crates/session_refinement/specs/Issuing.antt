@@ -24,18 +24,18 @@ use Rattle.session_state.specs.declared.change.Issued.{Issued as Issuing}
 use Rattle.turn_model.specs.Pump.{Pair}
 use Rattle.session_state.specs.declared.change.Effect.{Effect}
 use Rattle.session_state.specs.declared.change.Effect.TheVariants.{Issued, Subscribed}
-use Rattle.session_refinement.specs.StandFor.{Group, is_entry_of, IsReadAgain, IsServed, was_issued_to, sweep_positions, batch_positions}
+use Rattle.session_refinement.specs.StandFor.{Group, is_entry_from, IsReadAgain, IsServed, was_issued_to, sweep_positions, batch_positions}
 
 -- The entries are a batch's of a subscription: of its present version, in the batch's shard and range, and with the numbers that the batch
 -- names.
-pub record IsBatch (m : PlainSession) (number : ℕ) (b : Batch) (entries : List Entry) : Type 0 where
+pub record IsKeptBatch (m : PlainSession) (number : ℕ) (b : Batch) (entries : List Entry) : Type 0 where
   pub version : Version
   pub subscription : Subscription
   pub has_version : version_numbered b.version m ≡ Some version
   pub has_subscription : subscription_numbered number m ≡ Some subscription
   pub same_subscription : version.subscription ≡ number
   pub present : subscription.version ≡ b.version
-  pub entries_are : list_all (is_entry_of number b) entries ≡ true
+  pub entries_are : list_all (is_entry_from number b) entries ≡ true
   pub track1 : numbers1 entries ≡ numbers_from b.first1 b.count1
   pub track2 : numbers2 entries ≡ numbers_from b.first2 b.count2
 
@@ -51,12 +51,12 @@ pub record IsNumbered (m : PlainSession) (b : Batch) : Type 0 where
 pub record IsReadyFor (k : KeptSession) (m : PlainSession) (i : Issuing) (entries : List Entry) : Type 0 where
   pub order : InOrder k.tracks
   pub narrow : m.window ≤ WIDEST_WINDOW
-  pub batch : IsBatch m i.subscription i.batch entries
+  pub batch : IsKeptBatch m i.subscription i.batch entries
   pub numbered : IsNumbered m i.batch
 
 -- what a change is issued as: of a batch its entries
 abbrev pub IsIssuedAs : PlainSession → Effect → List Entry → Type 0
-IsIssuedAs m (Issued i) entries = IsBatch m i.subscription i.batch entries
+IsIssuedAs m (Issued i) entries = IsKeptBatch m i.subscription i.batch entries
 IsIssuedAs m other entries = Unit {0}
 
 -- the groups that a change adds: of a batch itself with its entries
@@ -80,9 +80,9 @@ abbrev pub AreLists : List ShardList → Type 0
 AreLists lists = (shard : ℕ) (list : ShardList) → slice_get lists shard ≡ Some list → IsList list
 
 -- a subscription that begins does so where the lists end
-abbrev pub StartsAt : List ShardList → Effect → Type 0
-StartsAt lists (Subscribed s) = s.sweeps ≡ map starting_sweep lists
-StartsAt lists other = Unit {0}
+abbrev pub BeginsInShard : List ShardList → Effect → Type 0
+BeginsInShard lists (Subscribed s) = s.sweeps ≡ map starting_sweep lists
+BeginsInShard lists other = Unit {0}
 
 -- A sweep of a pair is in order over the shard's list, and counts a wanted message exactly where it was issued or is one of these entries.
 pub record IsSwept (profile : Profile) (m : PlainSession) (p : Pair) (list : ShardList) (sweep : Sweep) (entries : List Entry) : Type 0 where
@@ -93,7 +93,7 @@ pub record IsSwept (profile : Profile) (m : PlainSession) (p : Pair) (list : Sha
 -- A batch with its entries that may be issued over the lists: it is read again as these entries; the sweep behind it counts them besides what
 -- was issued, and is in order; and neither names an offset or a generation that its shard's list doesn't have yet.
 pub record IsBatchOver (profile : Profile) (lists : List ShardList) (m : PlainSession) (i : Issuing) (entries : List Entry) : Type 0 where
-  pub batch : IsBatch m i.subscription i.batch entries
+  pub batch : IsKeptBatch m i.subscription i.batch entries
   pub again : IsReadAgain profile lists m (record { batch = i.batch; entries = entries })
   pub swept : (p : Pair) (list : ShardList) → IsServed lists m p list → p.subscription.number ≡ i.subscription → p.shard ≡ i.batch.shard →
       IsSwept profile m p list i.sweep entries

@@ -51,8 +51,8 @@ pub record Group : Type 0 where
   pub entries : List Entry
 
 -- of a subscription, under the batch's version, in its shard and its range
-abbrev pub is_entry_of : ℕ → Batch → Entry → Bool
-is_entry_of subscription b e =
+abbrev pub is_entry_from : ℕ → Batch → Entry → Bool
+is_entry_from subscription b e =
     (e.subscription == subscription)
     && ((e.version == b.version) && ((e.shard == b.shard) && (nat_le b.from e.offset && nat_lt e.offset b.to)))
 
@@ -62,7 +62,7 @@ pub record IsGroup (plain : PlainSession) (g : Group) : Type 0 where
   pub subscription : Subscription
   pub has_version : version_numbered g.batch.version plain ≡ Some version
   pub has_subscription : subscription_numbered version.subscription plain ≡ Some subscription
-  pub entries : list_all (is_entry_of version.subscription g.batch) g.entries ≡ true
+  pub entries : list_all (is_entry_from version.subscription g.batch) g.entries ≡ true
   pub track1 : numbers1 g.entries ≡ numbers_from g.batch.first1 g.batch.count1
   pub track2 : numbers2 g.entries ≡ numbers_from g.batch.first2 g.batch.count2
 
@@ -186,9 +186,9 @@ abbrev pub clients_of : List PlainSession → List (List ℕ)
 clients_of ms = map (λ (m : PlainSession). m.client) ms
 
 -- no two are the same
-abbrev pub AreDistinct : List (List ℕ) → Type 0
-AreDistinct [] = Unit {0}
-AreDistinct (c ∷ cs) = (list_any (λ (d : List ℕ). bytes_eq d c) cs ≡ false) × AreDistinct cs
+abbrev pub HaveOwnClients : List (List ℕ) → Type 0
+HaveOwnClients [] = Unit {0}
+HaveOwnClients (c ∷ cs) = (list_any (λ (d : List ℕ). bytes_eq d c) cs ≡ false) × HaveOwnClients cs
 
 -- each keeps what it needs of the plain one at its place
 abbrev pub KeepsSome : KeptSession → PlainSession → Type 0
@@ -197,10 +197,10 @@ KeepsSome k m = (groups : List Group) × Keeps k m groups
 pub record SessionsKeep (kept : KeptSessions) (plain : session.Sessions) : Type 0 where
   pub list : Pairwise KeepsSome kept.list plain.list
   pub next : kept.next ≡ plain.next
-  pub distinct : AreDistinct (clients_of plain.list)
+  pub distinct : HaveOwnClients (clients_of plain.list)
 
 -- in the order in which they began, each of a client of its own, and the next one gets the same number
 pub record SessionsStandFor (profile : Profile) (lists : List ShardList) (kept : KeptSessions) (plain : session.Sessions) : Type 0 where
   pub list : Pairwise (StandsFor profile lists) kept.list plain.list
   pub next : kept.next ≡ plain.next
-  pub distinct : AreDistinct (clients_of plain.list)
+  pub distinct : HaveOwnClients (clients_of plain.list)

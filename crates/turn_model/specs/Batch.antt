@@ -70,15 +70,15 @@ abbrev pub is_alike : Bool → Bool → Bool
 is_alike a b = (a && b) || (not a && not b)
 
 -- a packet goes in where all of them take no more than so many bytes, or it is the only one
-abbrev pub has_place : ℕ → ℕ → ℕ → Bool
-has_place most used size = nat_le (used + size) most || (used == 0)
+abbrev pub has_byte_place : ℕ → ℕ → ℕ → Bool
+has_byte_place most used size = nat_le (used + size) most || (used == 0)
 
 -- A run is cut before the first message that differs from its first in having expired, and before the first packet that has no place.
 abbrev pub cut_within : ℕ → Reader → ℕ → Bool → ℕ → ℕ → ℕ → List StoredMessage → List StoredMessage
 cut_within now r most expired used next1 next2 [] = []
 cut_within now r most expired used next1 next2 (m ∷ ms) =
     let kind = kind_for now r m next1 next2 in
-    if is_alike (has_expired now m) expired && has_place most used (size_out r m kind)
+    if is_alike (has_expired now m) expired && has_byte_place most used (size_out r m kind)
     then m ∷ cut_within now r most expired (used + size_out r m kind) (next1 + count1 kind) (next2 + count2 kind) ms
     else []
 

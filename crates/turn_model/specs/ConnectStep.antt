@@ -66,19 +66,19 @@ abbrev pub ended_if : Bool → List ℕ → List Change
 ended_if true client = change client Ended ∷ []
 ended_if false client = []
 
-abbrev pub begins : Setting → ConnectFields → List ℕ → Change
-begins s c client =
+abbrev pub began_change : Setting → ConnectFields → List ℕ → Change
+began_change s c client =
     change client (Began (record { incarnation = s.sessions.next; expiry = expiry_of c.props; window = window_for s c client }))
 
 abbrev pub connect_changes : Setting → ConnectFields → List ℕ → Bool → List Change
 connect_changes s c client true = change client (Bound (expiry_of c.props)) ∷ []
-connect_changes s c client false = ended_if (is_some (session_of client s.sessions)) client ++ begins s c client ∷ []
+connect_changes s c client false = ended_if (is_some (session_of client s.sessions)) client ++ began_change s c client ∷ []
 
 -- ---- refusals
 
 -- no place among the sessions, or no number is left for a new one
-abbrev pub has_no_place : Setting → List ℕ → Bool
-has_no_place s client = nat_le s.profile.sessions (length (others s.sessions client)) || nat_le greatest s.sessions.next
+abbrev pub has_no_session_place : Setting → List ℕ → Bool
+has_no_session_place s client = nat_le s.profile.sessions (length (others s.sessions client)) || nat_le greatest s.sessions.next
 
 -- why a CONNECT that is well formed is refused: the first that holds (MQTT 3.1.2.5, 3.1.2.11.9, 3.1.3.1)
 abbrev pub connect_refusal : Setting → ConnectFields → Option ℕ
@@ -86,7 +86,7 @@ connect_refusal s c =
     if is_some (first_of (text_in AUTHENTICATION_METHOD) c.props) then Some Reason.bad_authentication_method
     else if is_some c.will then Some Reason.implementation_error
     else if nat_lt s.profile.client (length c.client) then Some Reason.bad_client_identifier
-    else if not (is_resumed_if s c (session_of (client_for s c) s.sessions)) && has_no_place s (client_for s c) then Some Reason.server_busy
+    else if not (is_resumed_if s c (session_of (client_for s c) s.sessions)) && has_no_session_place s (client_for s c) then Some Reason.server_busy
     else None
 
 -- ---- CONNACK

@@ -27,16 +27,16 @@ no_local_of options = options / 4 % 2 == 1
 -- ---- message expiry (MQTT 3.3.2.3.3)
 
 -- how many seconds a message has waited at a moment; none where the moment lies before it was stored
-abbrev pub waited : ℕ → StoredMessage → ℕ
-waited now m = (now - m.stamp) / 1000
+abbrev pub seconds_waited : ℕ → StoredMessage → ℕ
+seconds_waited now m = (now - m.stamp) / 1000
 
-abbrev pub is_over : Option ℕ → ℕ → Bool
-is_over None seconds = false
-is_over (Some expiry) seconds = nat_le expiry seconds
+abbrev pub has_waited_out : Option ℕ → ℕ → Bool
+has_waited_out None seconds = false
+has_waited_out (Some expiry) seconds = nat_le expiry seconds
 
 -- it has waited at least as long as its interval says
 abbrev pub has_expired : ℕ → StoredMessage → Bool
-has_expired now m = is_over m.expiry (waited now m)
+has_expired now m = has_waited_out m.expiry (seconds_waited now m)
 
 -- ---- properties
 
@@ -58,7 +58,7 @@ abbrev pub publisher_props : StoredMessage → List Prop
 publisher_props m = props_or_none (bare_props In.Publish m.props)
 
 abbrev pub delivered_props : ℕ → Version → StoredMessage → List Prop
-delivered_props now v m = in_writing_order (expiry_props m.expiry (waited now m) ++ (identifier_props v.identifier ++ publisher_props m))
+delivered_props now v m = in_writing_order (expiry_props m.expiry (seconds_waited now m) ++ (identifier_props v.identifier ++ publisher_props m))
 
 -- ---- the packet (MQTT 3.3)
 
@@ -87,9 +87,9 @@ delivery dup now v m Silent = delivery_with false 0 0 now v m
 abbrev pub identifier_size : ℕ → ℕ
 identifier_size identifier = if identifier == 0 then 0 else 1 + var_size identifier
 
-abbrev pub expiry_size : Option ℕ → ℕ
-expiry_size None = 0
-expiry_size (Some expiry) = 5
+abbrev pub expiry_prop_size : Option ℕ → ℕ
+expiry_prop_size None = 0
+expiry_prop_size (Some expiry) = 5
 
 -- a packet identifier takes two bytes, and there is none with QoS 0 (MQTT 2.2.1)
 abbrev pub id_size : Kind → ℕ
@@ -99,7 +99,7 @@ id_size Zero = 0
 id_size Silent = 0
 
 abbrev pub delivered_props_size : Version → StoredMessage → ℕ
-delivered_props_size v m = expiry_size m.expiry + identifier_size v.identifier + length m.props
+delivered_props_size v m = expiry_prop_size m.expiry + identifier_size v.identifier + length m.props
 
 abbrev pub delivery_body_size : Version → StoredMessage → Kind → ℕ
 delivery_body_size v m kind =

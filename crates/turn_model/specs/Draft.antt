@@ -9,31 +9,31 @@ use Rattle.mqtt_frame.specs.declared.refused.BadHeader.{BadHeader}
 use Rattle.mqtt_frame.specs.PlainFramer.{PlainFramer}
 use Rattle.mqtt_packet.specs.Packet.{PlainPacket, PublishFields}
 use Rattle.turn_model.specs.PlainConnection.{PlainConnection, connection_of}
-use Rattle.turn_model.specs.Step.{Setting, is_nothing}
+use Rattle.turn_model.specs.Step.{Setting, is_empty}
 use Rattle.turn_model.specs.ConnectStep.{refusing}
-use Rattle.turn_model.specs.Worker.{Worker, Item, Answer, Answers, Accepts, Delivers, Pending, Out, Sent, Closed, setting_of, connection_in, are_sendable}
+use Rattle.turn_model.specs.Worker.{Worker, Item, Answer, Answers, Accepts, Delivers, PendingRecord, Out, Sent, Closed, setting_of, connection_in, are_sendable}
 use Rattle.turn_model.specs.WorkerMoves.{WorkerMove, View, BeginCommit, Commit, Emit, OfItem, Unbind, Cause, OfPackets, OfConnect, OfPump, OfTick, OfOwed, Ending, with_reason, silently, Stepped, worker_step, worker_outs, item_at}
 use Rattle.turn_model.specs.Reasons as Reason
 
 -- ---- what stands beside a worker
 
 -- a connection that is open, with what has come of its next packet
-pub record Reading : Type 0 where
+pub record OpenConnection : Type 0 where
   pub connection : ℕ
   pub framer : PlainFramer
 
 -- The open connections, bound or not; and the moment of the worker's last turn.
 pub record Beside : Type 0 where
-  pub readings : List Reading
+  pub readings : List OpenConnection
   pub last : ℕ
 
-abbrev pub reading_at : ℕ → List Reading → Option Reading
-reading_at conn rs = find (λ (r : Reading). r.connection == conn) rs
+abbrev pub reading_at : ℕ → List OpenConnection → Option OpenConnection
+reading_at conn rs = find (λ (r : OpenConnection). r.connection == conn) rs
 
-abbrev pub without_reading : ℕ → List Reading → List Reading
-without_reading conn rs = filter (λ (r : Reading). not (r.connection == conn)) rs
+abbrev pub without_reading : ℕ → List OpenConnection → List OpenConnection
+without_reading conn rs = filter (λ (r : OpenConnection). not (r.connection == conn)) rs
 
-abbrev pub with_framer : ℕ → PlainFramer → List Reading → List Reading
+abbrev pub with_framer : ℕ → PlainFramer → List OpenConnection → List OpenConnection
 with_framer conn framer [] = []
 with_framer conn framer (r ∷ rs) = (if r.connection == conn then record r { framer = framer } else r) ∷ with_framer conn framer rs
 
@@ -154,11 +154,11 @@ abbrev pub after_of : Status → Option After
 after_of (Waiting request after) = Some after
 after_of other = None
 
-abbrev pub next_of : Status → Report → Next
-next_of (Waiting request after) report = Asks request
-next_of Failed report = JournalFault
-next_of Going report = Done report
-next_of Ended report = Done report
+abbrev pub next_after : Status → Report → Next
+next_after (Waiting request after) report = Asks request
+next_after Failed report = JournalFault
+next_after Going report = Done report
+next_after Ended report = Done report
 
 abbrev pub part_of : Option ℕ → Draft → Part
 part_of own d =
@@ -167,7 +167,7 @@ part_of own d =
       outs = d.outs;
       beside = d.beside;
       todo = record { connection = own; after = after_of d.status; singly = d.singly; rest = d.rest; report = d.report };
-      next = next_of d.status d.report;
+      next = next_after d.status d.report;
       fates = d.fates;
     }
 
@@ -203,7 +203,7 @@ abbrev pub client_of : List Change → Option (List ℕ)
 client_of [] = None
 client_of (c ∷ changes) = Some c.client
 
-abbrev pub named_by : Option Pending → Option (List ℕ)
+abbrev pub named_by : Option PendingRecord → Option (List ℕ)
 named_by None = None
 named_by (Some p) = client_of p.changes
 
@@ -243,17 +243,17 @@ module _ (profile : Profile) (config : Config) (now : ℕ) where
   named_closed (Some conn) d = ended_with conn (with_reason Reason.implementation_error) d
 
   -- a CONNECT isn't bound yet: it is told by its CONNACK
-  abbrev pub own_failed : Cause → Draft → Draft
-  own_failed (OfPackets conn packets) d = own_bound_closed conn (with_reason Reason.implementation_error) 0 d
-  own_failed (OfConnect conn c) d = connect_refused conn Reason.implementation_error 0 d
-  own_failed (OfPump conn b) d = own_bound_closed conn (with_reason Reason.implementation_error) 0 d
-  own_failed OfTick d = d
-  own_failed OfOwed d = d
+  abbrev pub own_closed_by_journal : Cause → Draft → Draft
+  own_closed_by_journal (OfPackets conn packets) d = own_bound_closed conn (with_reason Reason.implementation_error) 0 d
+  own_closed_by_journal (OfConnect conn c) d = connect_refused conn Reason.implementation_error 0 d
+  own_closed_by_journal (OfPump conn b) d = own_bound_closed conn (with_reason Reason.implementation_error) 0 d
+  own_closed_by_journal OfTick d = d
+  own_closed_by_journal OfOwed d = d
 
   -- The journal failed: the turn's connection is closed, and the one of the session that the record names; the turn is over.
   abbrev pub failed_by : Cause → Option (List ℕ) → Draft → Draft
   failed_by cause client d =
-      let own = own_failed cause d in record (named_closed (bound_number client own.worker) own) { status = Failed }
+      let own = own_closed_by_journal cause d in record (named_closed (bound_number client own.worker) own) { status = Failed }
 
   abbrev pub committed_unless : Bool → Cause → Cause → Draft → Draft
   committed_unless true cause own d = failed_by own (named_by d.worker.pending) d
@@ -272,7 +272,7 @@ module _ (profile : Profile) (config : Config) (now : ℕ) where
 
   -- owed changes that don't go into one record with these many others take records of their own, first
   abbrev pub is_crowded : ℕ → Draft → Bool
-  is_crowded count d = not (is_nothing d.worker.owed) && nat_lt profile.changes (length d.worker.owed + count)
+  is_crowded count d = not (is_empty d.worker.owed) && nat_lt profile.changes (length d.worker.owed + count)
 
   abbrev pub owed_if : Bool → Cause → Draft → Draft
   owed_if true own d = commit OfOwed own d
@@ -282,8 +282,8 @@ module _ (profile : Profile) (config : Config) (now : ℕ) where
   owed_first [] count own d = d
   owed_first (c ∷ changes) count own d = owed_first changes count own (owed_if (is_crowded count d) own d)
 
-  abbrev pub committed : Cause → ℕ → Draft → Draft
-  committed cause count d = commit cause cause (owed_first d.worker.owed count cause d)
+  abbrev pub committed_with_owed : Cause → ℕ → Draft → Draft
+  committed_with_owed cause count d = commit cause cause (owed_first d.worker.owed count cause d)
 
   -- ---- put out
 
@@ -309,5 +309,5 @@ module _ (profile : Profile) (config : Config) (now : ℕ) where
   put_out_if false conn d = d
 
   -- the item of what was just committed or stored
-  abbrev pub answered : ℕ → Draft → Draft
-  answered conn d = put_out_if (is_going d.status) conn d
+  abbrev pub put_out_answer : ℕ → Draft → Draft
+  put_out_answer conn d = put_out_if (is_going d.status) conn d

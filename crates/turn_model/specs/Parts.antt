@@ -16,22 +16,22 @@ use Rattle.mqtt_packet.specs.Packet.{Publish, PublishFields}
 use Rattle.turn_model.specs.PlainConnection.{PlainConnection, rest_of}
 use Rattle.turn_model.specs.Pump.{pump_of}
 use Rattle.turn_model.specs.Resend.{Resent, resent, Again, Publishes, again, pass_changes, issued_packets}
-use Rattle.turn_model.specs.Step.{Outcome, Kept, IsFull, AwaitsTooMany, Faulted, Close, Step, is_nothing}
+use Rattle.turn_model.specs.Step.{Outcome, Kept, IsFull, AwaitsTooMany, Faulted, Close, Step, is_empty}
 use Rattle.turn_model.specs.PacketStep.{tick_step}
-use Rattle.turn_model.specs.Worker.{Worker, Pending, Closed, connection_in, session_in, sessions_of}
+use Rattle.turn_model.specs.Worker.{Worker, PendingRecord, Closed, connection_in, session_in, sessions_of}
 use Rattle.turn_model.specs.WorkerMoves.{Emit, OfResend, OfPump, OfTick, Settle, Ending, by_client, silently, with_reason}
-use Rattle.turn_model.specs.Draft.{Draft, Part, Beside, Todo, Waiting, Failed, Token, Arrival, Opened, Bytes, ClosedByClient, Pump, Tick, ForBodies, ForDrop, After, AfterPublishes, AfterRelease, AfterBodies, AfterDrop, no_report, fresh_draft, part_of, is_going, reading_at, push, views_pushed, not_open, ended_with, own_bound_closed, own_unbound_closed, commit, committed, answered}
-use Rattle.turn_model.specs.Pieces.{piece_taken, tokens_taken, told, asked}
+use Rattle.turn_model.specs.Draft.{Draft, Part, Beside, Todo, Waiting, Failed, Token, Arrival, Opened, Bytes, ClosedByClient, Pump, Tick, ForBodies, ForDrop, After, AfterPublishes, AfterRelease, AfterBodies, AfterDrop, no_report, fresh_draft, part_of, is_going, reading_at, push, views_pushed, not_open, ended_with, own_bound_closed, own_unbound_closed, commit, committed_with_owed, put_out_answer}
+use Rattle.turn_model.specs.Pieces.{piece_taken, tokens_taken, packet_answered, group_asked}
 use Rattle.turn_model.specs.Reasons as Reason
 
 -- what the outside answered: a shard's append, its reading of bodies, and its drop
-pub data Answered : Type 0 where
-  GroupIs : Outcome → Answered
-  BodiesRead : Answered
-  BodiesGone : ℕ → Answered
-  BodiesFailed : Answered
-  DropDone : Answered
-  DropFailed : Answered
+pub data Response : Type 0 where
+  GroupIs : Outcome → Response
+  BodiesRead : Response
+  BodiesGone : ℕ → Response
+  BodiesFailed : Response
+  DropDone : Response
+  DropFailed : Response
 
 -- ---- bodies that aren't in memory
 
@@ -59,8 +59,8 @@ is_publish other = false
 abbrev pub loud : List Entry → List Entry
 loud es = filter (λ (e : Entry). is_loud e.kind) es
 
-abbrev pub published_again : PlainSession → PlainConnection → ℕ → List ShardList → List Entry → List Entry
-published_again m k now lists es = filter (λ (e : Entry). is_publish (again m k.packet_limit now lists e)) es
+abbrev pub entries_published_again : PlainSession → PlainConnection → ℕ → List ShardList → List Entry → List Entry
+entries_published_again m k now lists es = filter (λ (e : Entry). is_publish (again m k.packet_limit now lists e)) es
 
 -- the first shard from a number on, not asked yet, that has such bodies, with their offsets
 abbrev pub or_places : ℕ → List ℕ → Option (ℕ × List ℕ) → Option (ℕ × List ℕ)
@@ -71,16 +71,16 @@ abbrev pub is_asked : ℕ → List ℕ → Bool
 is_asked shard shards = list_any (λ (s : ℕ). s == shard) shards
 
 abbrev pub first_cold : List ShardList → List ℕ → List Entry → List ℕ → Option (ℕ × List ℕ)
-first_cold lists asked es [] = None
-first_cold lists asked es (shard ∷ shards) =
-    or_places shard (if is_asked shard asked then [] else cold_places lists shard es) (first_cold lists asked es shards)
+first_cold lists group_asked es [] = None
+first_cold lists group_asked es (shard ∷ shards) =
+    or_places shard (if is_asked shard group_asked then [] else cold_places lists shard es) (first_cold lists group_asked es shards)
 
 module _ (profile : Profile) (config : Config) (now : ℕ) where
   -- ---- a pump
 
   abbrev pub passed_after : ℕ → Option PlainConnection → Option PlainSession → Draft → Draft
   passed_after conn (Some k) (Some m) d =
-      if is_nothing (pass_changes m k) then d else committed profile config now (OfPump conn None) (length (pass_changes m k)) d
+      if is_empty (pass_changes m k) then d else committed_with_owed profile config now (OfPump conn None) (length (pass_changes m k)) d
   passed_after conn k m d = d
 
   -- what is sent again is put out, and then what was passed over above the marks is finished
@@ -89,50 +89,50 @@ module _ (profile : Profile) (config : Config) (now : ℕ) where
       let sent = push profile config now (Emit (OfResend conn) now) (record d { report = record d.report { sent = length r.packets } }) in
       passed_after conn (connection_in sent.worker conn) (session_in sent.worker conn) sent
 
-  abbrev pub counted : ℕ → ℕ → Draft → Draft
-  counted issued sent d = record d { report = record d.report { issued = issued; sent = sent } }
+  abbrev pub with_counts : ℕ → ℕ → Draft → Draft
+  with_counts issued sent d = record d { report = record d.report { issued = issued; sent = sent } }
 
-  abbrev pub counted_if : Bool → ℕ → ℕ → Draft → Draft
-  counted_if true issued sent d = counted issued sent d
-  counted_if false issued sent d = d
+  abbrev pub with_counts_if : Bool → ℕ → ℕ → Draft → Draft
+  with_counts_if true issued sent d = with_counts issued sent d
+  with_counts_if false issued sent d = d
 
   abbrev pub issued_out : ℕ → PlainSession → PlainConnection → Issues → Draft → Draft
   issued_out conn m k b d =
-      let done = committed profile config now (OfPump conn (Some b)) (1 + length (pass_changes m k)) d in
-      answered profile config now conn (counted_if (is_going done.status) (length b.entries) (length (issued_packets now m d.worker.seen b.entries)) done)
+      let done = committed_with_owed profile config now (OfPump conn (Some b)) (1 + length (pass_changes m k)) d in
+      put_out_answer profile config now conn (with_counts_if (is_going done.status) (length b.entries) (length (issued_packets now m d.worker.seen b.entries)) done)
 
   abbrev pub asking_bodies : List ℕ → ℕ × List ℕ → Draft → Draft
-  asking_bodies asked places d = record d { status = Waiting (ForBodies places.0 places.1) (AfterBodies (asked ++ places.0 ∷ [])) }
+  asking_bodies group_asked places d = record d { status = Waiting (ForBodies places.0 places.1) (AfterBodies (group_asked ++ places.0 ∷ [])) }
 
   abbrev pub cold_of : List ℕ → List Entry → Draft → Option (ℕ × List ℕ)
-  cold_of asked es d = if profile.cools then first_cold d.worker.seen asked es (counted_from 0 (length d.worker.seen)) else None
+  cold_of group_asked es d = if profile.cools then first_cold d.worker.seen group_asked es (counted_from 0 (length d.worker.seen)) else None
 
   abbrev pub resend_unless : Option (ℕ × List ℕ) → List ℕ → ℕ → Resent → Draft → Draft
-  resend_unless (Some places) asked conn r d = asking_bodies asked places d
-  resend_unless None asked conn r d = resent_out conn r d
+  resend_unless (Some places) group_asked conn r d = asking_bodies group_asked places d
+  resend_unless None group_asked conn r d = resent_out conn r d
 
   abbrev pub issue_unless : Option (ℕ × List ℕ) → List ℕ → ℕ → PlainSession → PlainConnection → Issues → Draft → Draft
-  issue_unless (Some places) asked conn m k b d = asking_bodies asked places d
-  issue_unless None asked conn m k b d = issued_out conn m k b d
+  issue_unless (Some places) group_asked conn m k b d = asking_bodies group_asked places d
+  issue_unless None group_asked conn m k b d = issued_out conn m k b d
 
   abbrev pub issued_by : List ℕ → ℕ → PlainSession → PlainConnection → Option Issues → Draft → Draft
-  issued_by asked conn m k None d = passed_after conn (Some k) (Some m) d
-  issued_by asked conn m k (Some b) d = issue_unless (cold_of asked (loud b.entries) d) asked conn m k b d
+  issued_by group_asked conn m k None d = passed_after conn (Some k) (Some m) d
+  issued_by group_asked conn m k (Some b) d = issue_unless (cold_of group_asked (loud b.entries) d) group_asked conn m k b d
 
   -- what is left to be sent again goes first
-  abbrev pub pumped_by : List ℕ → ℕ → PlainSession → PlainConnection → List Entry → Draft → Draft
-  pumped_by asked conn m k (e ∷ es) d =
+  abbrev pub pump_taken_by : List ℕ → ℕ → PlainSession → PlainConnection → List Entry → Draft → Draft
+  pump_taken_by group_asked conn m k (e ∷ es) d =
       let r = resent profile now m k d.worker.seen in
-      resend_unless (cold_of asked (published_again m k now d.worker.seen r.taken) d) asked conn r d
-  pumped_by asked conn m k [] d = issued_by asked conn m k (pump_of profile now m k d.worker.seen) d
+      resend_unless (cold_of group_asked (entries_published_again m k now d.worker.seen r.taken) d) group_asked conn r d
+  pump_taken_by group_asked conn m k [] d = issued_by group_asked conn m k (pump_of profile now m k d.worker.seen) d
 
-  abbrev pub pumped_with : List ℕ → ℕ → Option PlainConnection → Option PlainSession → Draft → Draft
-  pumped_with asked conn (Some k) (Some m) d = pumped_by asked conn m k (rest_of m k) d
-  pumped_with asked conn k m d = d
+  abbrev pub pump_taken_with : List ℕ → ℕ → Option PlainConnection → Option PlainSession → Draft → Draft
+  pump_taken_with group_asked conn (Some k) (Some m) d = pump_taken_by group_asked conn m k (rest_of m k) d
+  pump_taken_with group_asked conn k m d = d
 
   -- a pump that has asked these shards for bodies
-  abbrev pub pumped : List ℕ → ℕ → Draft → Draft
-  pumped asked conn d = pumped_with asked conn (connection_in d.worker conn) (session_in d.worker conn) d
+  abbrev pub pump_taken : List ℕ → ℕ → Draft → Draft
+  pump_taken group_asked conn d = pump_taken_with group_asked conn (connection_in d.worker conn) (session_in d.worker conn) d
 
   -- ---- a Tick
 
@@ -153,7 +153,7 @@ module _ (profile : Profile) (config : Config) (now : ℕ) where
   tick_commit_if false d = d
 
   abbrev pub are_over : Draft → Bool
-  are_over d = not (is_nothing (tick_over d).changes)
+  are_over d = not (is_empty (tick_over d).changes)
 
   -- as many records as the sessions that are over take, behind the owed changes
   abbrev pub tick_commits : ℕ → Draft → Draft
@@ -176,61 +176,61 @@ module _ (profile : Profile) (config : Config) (now : ℕ) where
   drops_if false d = d
 
   -- one generation is never dropped
-  abbrev pub ticked : Draft → Draft
-  ticked d =
+  abbrev pub tick_taken : Draft → Draft
+  tick_taken d =
       let ended = sessions_ended (closes_made (tick_over d).closes d) in
       drops_if (is_going ended.status && nat_lt 1 profile.generations) ended
 
   -- ---- an arrival
 
-  abbrev pub opened : ℕ → Draft → Draft
-  opened conn d =
+  abbrev pub connection_opened : ℕ → Draft → Draft
+  connection_opened conn d =
       record d { beside = record d.beside { readings = d.beside.readings ++ record { connection = conn; framer = opening profile.packet } ∷ [] } }
 
   abbrev pub left_by_client : ℕ → Option PlainConnection → Draft → Draft
   left_by_client conn (Some k) d = ended_with profile config now conn by_client d
   left_by_client conn None d = not_open conn d
 
-  abbrev pub arrived : Arrival → Draft → Draft
-  arrived (Opened conn) d = opened conn d
-  arrived (Bytes conn piece) d = piece_taken profile config now conn piece (reading_at conn d.beside.readings) d
-  arrived (ClosedByClient conn) d = left_by_client conn (connection_in d.worker conn) d
-  arrived (Pump conn) d = pumped [] conn d
-  arrived Tick d = ticked d
+  abbrev pub arrival_taken : Arrival → Draft → Draft
+  arrival_taken (Opened conn) d = connection_opened conn d
+  arrival_taken (Bytes conn piece) d = piece_taken profile config now conn piece (reading_at conn d.beside.readings) d
+  arrival_taken (ClosedByClient conn) d = left_by_client conn (connection_in d.worker conn) d
+  arrival_taken (Pump conn) d = pump_taken [] conn d
+  arrival_taken Tick d = tick_taken d
 
-  abbrev pub own_of : Arrival → Option ℕ
-  own_of (Opened conn) = Some conn
-  own_of (Bytes conn piece) = Some conn
-  own_of (ClosedByClient conn) = Some conn
-  own_of (Pump conn) = Some conn
-  own_of Tick = None
+  abbrev pub connection_in_arrival : Arrival → Option ℕ
+  connection_in_arrival (Opened conn) = Some conn
+  connection_in_arrival (Bytes conn piece) = Some conn
+  connection_in_arrival (ClosedByClient conn) = Some conn
+  connection_in_arrival (Pump conn) = Some conn
+  connection_in_arrival Tick = None
 
   -- an arrival that isn't taken: its connection is closed
-  abbrev pub not_taken_by : ℕ → Option PlainConnection → Draft → Draft
-  not_taken_by conn (Some k) d = own_bound_closed profile config now conn (with_reason Reason.implementation_error) 0 d
-  not_taken_by conn None d = own_unbound_closed conn 0 d
+  abbrev pub arrival_refused_by : ℕ → Option PlainConnection → Draft → Draft
+  arrival_refused_by conn (Some k) d = own_bound_closed profile config now conn (with_reason Reason.implementation_error) 0 d
+  arrival_refused_by conn None d = own_unbound_closed conn 0 d
 
-  abbrev pub not_taken : Arrival → Draft → Draft
-  not_taken (Opened conn) d = record d { outs = d.outs ++ Closed conn ∷ [] }
-  not_taken (Bytes conn piece) d = not_taken_by conn (connection_in d.worker conn) d
-  not_taken (ClosedByClient conn) d = not_taken_by conn (connection_in d.worker conn) d
-  not_taken (Pump conn) d = not_taken_by conn (connection_in d.worker conn) d
-  not_taken Tick d = d
+  abbrev pub arrival_refused : Arrival → Draft → Draft
+  arrival_refused (Opened conn) d = record d { outs = d.outs ++ Closed conn ∷ [] }
+  arrival_refused (Bytes conn piece) d = arrival_refused_by conn (connection_in d.worker conn) d
+  arrival_refused (ClosedByClient conn) d = arrival_refused_by conn (connection_in d.worker conn) d
+  arrival_refused (Pump conn) d = arrival_refused_by conn (connection_in d.worker conn) d
+  arrival_refused Tick d = d
 
   -- a journal in doubt is settled first
   abbrev pub settled_unless : Bool → Bool → Arrival → Draft → Draft
-  settled_unless true goes_in arrival d = record (not_taken arrival d) { status = Failed }
-  settled_unless false goes_in arrival d = arrived arrival (push profile config now (Settle goes_in now) d)
+  settled_unless true goes_in arrival d = record (arrival_refused arrival d) { status = Failed }
+  settled_unless false goes_in arrival d = arrival_taken arrival (push profile config now (Settle goes_in now) d)
 
   abbrev pub settled_with : Drawn → Arrival → Draft → Draft
   settled_with drawn arrival d = settled_unless drawn.fails drawn.goes_in arrival (record d { fates = drawn.fates })
 
-  abbrev pub settled_first : Option Pending → Arrival → Draft → Draft
-  settled_first None arrival d = arrived arrival d
+  abbrev pub settled_first : Option PendingRecord → Arrival → Draft → Draft
+  settled_first None arrival d = arrival_taken arrival d
   settled_first (Some p) arrival d = settled_with (draw d.fates) arrival d
 
-  abbrev pub started : Arrival → Draft → Draft
-  started arrival d = settled_first d.worker.pending arrival d
+  abbrev pub arrival_started : Arrival → Draft → Draft
+  arrival_started arrival d = settled_first d.worker.pending arrival d
 
   -- ---- behind what was asked
 
@@ -239,7 +239,7 @@ module _ (profile : Profile) (config : Config) (now : ℕ) where
 
   -- the next publish that is asked by itself, or the tokens that are left
   abbrev pub gone_on : ℕ → List PublishFields → List Token → Draft → Draft
-  gone_on conn (p ∷ ps) tokens d = record (asked profile config now conn (p ∷ []) d) { singly = ps; rest = tokens }
+  gone_on conn (p ∷ ps) tokens d = record (group_asked profile config now conn (p ∷ []) d) { singly = ps; rest = tokens }
   gone_on conn [] tokens d = tokens_taken profile config now conn tokens (record d { singly = []; rest = [] })
 
   abbrev pub gone_on_if : Bool → ℕ → List PublishFields → List Token → Draft → Draft
@@ -252,37 +252,37 @@ module _ (profile : Profile) (config : Config) (now : ℕ) where
   -- a refused group of several is asked again publish by publish
   abbrev pub refused_publishes : ℕ → List PublishFields → Outcome → Todo → Draft → Draft
   refused_publishes conn [] outcome todo d = went_on conn todo d
-  refused_publishes conn (p ∷ []) outcome todo d = went_on conn todo (told profile config now conn (Publish p) (outcome ∷ []) d)
+  refused_publishes conn (p ∷ []) outcome todo d = went_on conn todo (packet_answered profile config now conn (Publish p) (outcome ∷ []) d)
   refused_publishes conn (p ∷ q ∷ ps) outcome todo d = gone_on conn (p ∷ q ∷ ps) todo.rest d
 
-  abbrev pub own_failed : ℕ → ℕ → Draft → Draft
-  own_failed conn shard d = own_bound_closed profile config now conn (with_reason Reason.implementation_error) 0 (failed_shard shard d)
+  abbrev pub own_closed_by_shard : ℕ → ℕ → Draft → Draft
+  own_closed_by_shard conn shard d = own_bound_closed profile config now conn (with_reason Reason.implementation_error) 0 (failed_shard shard d)
 
   abbrev pub publishes_done : ℕ → ℕ → List PublishFields → Outcome → Todo → Draft → Draft
-  publishes_done conn shard ps Kept todo d = went_on conn todo (answered profile config now conn d)
+  publishes_done conn shard ps Kept todo d = went_on conn todo (put_out_answer profile config now conn d)
   publishes_done conn shard ps IsFull todo d = refused_publishes conn ps IsFull todo d
   publishes_done conn shard ps AwaitsTooMany todo d = refused_publishes conn ps AwaitsTooMany todo d
-  publishes_done conn shard ps Faulted todo d = own_failed conn shard d
+  publishes_done conn shard ps Faulted todo d = own_closed_by_shard conn shard d
 
   abbrev pub release_done : ℕ → ℕ → Outcome → Todo → Draft → Draft
-  release_done conn shard Kept todo d = went_on conn todo (answered profile config now conn d)
-  release_done conn shard other todo d = own_failed conn shard d
+  release_done conn shard Kept todo d = went_on conn todo (put_out_answer profile config now conn d)
+  release_done conn shard other todo d = own_closed_by_shard conn shard d
 
-  abbrev pub bodies_done : ℕ → ℕ → List ℕ → Answered → Draft → Draft
-  bodies_done conn shard shards BodiesRead d = pumped shards conn d
+  abbrev pub bodies_done : ℕ → ℕ → List ℕ → Response → Draft → Draft
+  bodies_done conn shard shards BodiesRead d = pump_taken shards conn d
   bodies_done conn shard shards (BodiesGone offset) d = record d { report = record d.report { gone = Some offset } }
   bodies_done conn shard shards other d = failed_shard shard d
 
-  abbrev pub drop_done : ℕ → List ℕ → Answered → Draft → Draft
+  abbrev pub drop_done : ℕ → List ℕ → Response → Draft → Draft
   drop_done shard shards DropDone d = drops_asked shards d
   drop_done shard shards other d = drops_asked shards (failed_shard shard d)
 
-  abbrev pub outcome_in : Answered → Outcome
+  abbrev pub outcome_in : Response → Outcome
   outcome_in (GroupIs outcome) = outcome
   outcome_in other = Faulted
 
   -- by what the call asked of this shard
-  abbrev pub resumed_after : ℕ → Option ℕ → Option After → Answered → Todo → Draft → Draft
+  abbrev pub resumed_after : ℕ → Option ℕ → Option After → Response → Todo → Draft → Draft
   resumed_after shard (Some conn) (Some (AfterPublishes ps)) answer todo d = publishes_done conn shard ps (outcome_in answer) todo d
   resumed_after shard (Some conn) (Some (AfterRelease packet)) answer todo d = release_done conn shard (outcome_in answer) todo d
   resumed_after shard (Some conn) (Some (AfterBodies shards)) answer todo d = bodies_done conn shard shards answer d
@@ -299,12 +299,12 @@ turn_moment beside now = max (moment_of now) beside.last
 abbrev pub start_part : Profile → Config → Worker → Beside → Arrival → ℕ → List ShardList → Fates → Part
 start_part profile config w beside arrival now views fates =
     let moment = turn_moment beside now in
-    part_of (own_of profile config moment arrival)
-    (started profile config moment arrival
+    part_of (connection_in_arrival profile config moment arrival)
+    (arrival_started profile config moment arrival
     (views_pushed profile config moment 0 views (fresh_draft w (record beside { last = moment }) fates no_report)))
 
 -- `resume`: a View of every shard, and then what follows the answer of this shard, at the turn's moment
-abbrev pub resume_part : Profile → Config → Worker → Beside → Todo → ℕ → Answered → List ShardList → Fates → Part
+abbrev pub resume_part : Profile → Config → Worker → Beside → Todo → ℕ → Response → List ShardList → Fates → Part
 resume_part profile config w beside todo shard answer views fates =
     part_of todo.connection
     (resumed_after profile config beside.last shard todo.connection todo.after answer todo

@@ -12,30 +12,30 @@ use Rattle.mqtt_packet.specs.declared.refused.ReadRefused.TheVariants.{Version, 
 use Rattle.mqtt_packet.specs.Packet.{PlainPacket, Connect, Publish, Ack, Disconnect, PublishFields, ConnectFields}
 use Rattle.mqtt_packet.specs.Answer.{answer}
 use Rattle.turn_model.specs.PlainConnection.{PlainConnection}
-use Rattle.turn_model.specs.Step.{Outcome, Close, Ask, Step, is_nothing}
+use Rattle.turn_model.specs.Step.{Outcome, Close, Ask, Step, is_empty}
 use Rattle.turn_model.specs.PublishStep.{publish_case, is_asking, publish_group, joins}
 use Rattle.turn_model.specs.ConnectStep.{connect_refusal, connect_step}
 use Rattle.turn_model.specs.PacketStep.{packet_step, interval_of}
 use Rattle.turn_model.specs.Worker.{connection_in, session_in, are_sendable}
 use Rattle.turn_model.specs.laws.CarriedLaws.{stepped_on}
 use Rattle.turn_model.specs.WorkerMoves.{Emit, OfPacket, OfPackets, OfConnect, Bind, TakeOver, Ending, with_reason, silently, Stepped, not_stepped}
-use Rattle.turn_model.specs.Draft.{Draft, Status, Going, Waiting, Ended, Failed, Token, Whole, BadFront, EndOfPiece, Reading, ForGroup, After, AfterPublishes, AfterRelease, is_going, with_framer, push, setting_in, not_open, own_bound_closed, own_unbound_closed, connect_refused, committed, long_closed, answered}
+use Rattle.turn_model.specs.Draft.{Draft, Status, Going, Waiting, Ended, Failed, Token, Whole, BadFront, EndOfPiece, OpenConnection, ForGroup, After, AfterPublishes, AfterRelease, is_going, with_framer, push, setting_in, not_open, own_bound_closed, own_unbound_closed, connect_refused, committed_with_owed, long_closed, put_out_answer}
 use Rattle.turn_model.specs.Reasons as Reason
 
 -- ---- what a packet is read as
 
 -- it closes with a reason and a rule, or it is a packet
-pub data Arrived : Type 0 where
-  Closes : ℕ → ℕ → Arrived
-  Is : PlainPacket → Arrived
+pub data ReadAs : Type 0 where
+  Closes : ℕ → ℕ → ReadAs
+  Is : PlainPacket → ReadAs
 
 -- on a connection that is bound: another version is a second CONNECT
-abbrev pub arrived : Result PlainPacket ReadRefused → Arrived
-arrived (Ok packet) = Is packet
-arrived (Err Version) = Closes Reason.protocol_error Reason.rule_second_connect
-arrived (Err Malformed) = Closes Reason.malformed_packet 0
-arrived (Err (Protocol rule)) = Closes Reason.protocol_error rule
-arrived (Err Memory) = Closes Reason.malformed_packet 0
+abbrev pub read_as : Result PlainPacket ReadRefused → ReadAs
+read_as (Ok packet) = Is packet
+read_as (Err Version) = Closes Reason.protocol_error Reason.rule_second_connect
+read_as (Err Malformed) = Closes Reason.malformed_packet 0
+read_as (Err (Protocol rule)) = Closes Reason.protocol_error rule
+read_as (Err Memory) = Closes Reason.malformed_packet 0
 
 abbrev pub header_reason : BadHeader → ℕ
 header_reason Length = Reason.malformed_packet
@@ -64,31 +64,31 @@ module _ (profile : Profile) (config : Config) (now : ℕ) where
   abbrev pub is_short_answer : PlainConnection → Step → Bool
   is_short_answer k step = are_sendable k.packet_limit step.replies
 
-  abbrev pub told_with : ℕ → PlainPacket → List Outcome → Option PlainConnection → Option PlainSession → Draft → Draft
-  told_with conn packet outcomes (Some k) (Some m) d =
+  abbrev pub packet_answered_with : ℕ → PlainPacket → List Outcome → Option PlainConnection → Option PlainSession → Draft → Draft
+  packet_answered_with conn packet outcomes (Some k) (Some m) d =
       long_closed profile config now (is_short_answer k (packet_step (setting_in profile config now d) k m packet outcomes)) conn
       (push profile config now (Emit (OfPacket conn packet outcomes) now) d)
-  told_with conn packet outcomes k m d = d
+  packet_answered_with conn packet outcomes k m d = d
 
-  abbrev pub told_if : Bool → ℕ → PlainPacket → List Outcome → Draft → Draft
-  told_if true conn packet outcomes d = told_with conn packet outcomes (connection_in d.worker conn) (session_in d.worker conn) d
-  told_if false conn packet outcomes d = d
+  abbrev pub packet_answered_if : Bool → ℕ → PlainPacket → List Outcome → Draft → Draft
+  packet_answered_if true conn packet outcomes d = packet_answered_with conn packet outcomes (connection_in d.worker conn) (session_in d.worker conn) d
+  packet_answered_if false conn packet outcomes d = d
 
-  abbrev pub told : ℕ → PlainPacket → List Outcome → Draft → Draft
-  told conn packet outcomes d = told_if (is_going d.status) conn packet outcomes d
+  abbrev pub packet_answered : ℕ → PlainPacket → List Outcome → Draft → Draft
+  packet_answered conn packet outcomes d = packet_answered_if (is_going d.status) conn packet outcomes d
 
-  abbrev pub all_told : ℕ → List PlainPacket → Draft → Draft
-  all_told conn [] d = d
-  all_told conn (packet ∷ packets) d = all_told conn packets (told conn packet [] d)
+  abbrev pub packets_answered : ℕ → List PlainPacket → Draft → Draft
+  packets_answered conn [] d = d
+  packets_answered conn (packet ∷ packets) d = packets_answered conn packets (packet_answered conn packet [] d)
 
   -- packets of which none changes anything take no record
-  abbrev pub recorded : ℕ → List PlainPacket → Stepped → Draft → Draft
-  recorded conn packets st d =
-      if is_nothing st.changes then all_told conn packets d
-      else answered profile config now conn (committed profile config now (OfPackets conn packets) (length st.changes) d)
+  abbrev pub acks_recorded : ℕ → List PlainPacket → Stepped → Draft → Draft
+  acks_recorded conn packets st d =
+      if is_empty st.changes then packets_answered conn packets d
+      else put_out_answer profile config now conn (committed_with_owed profile config now (OfPackets conn packets) (length st.changes) d)
 
   abbrev pub acks_closed_with : ℕ → Option PlainConnection → Option PlainSession → Draft → Draft
-  acks_closed_with conn (Some k) (Some m) d = record (recorded conn d.acks (stepped_or m d.stepped) d) { acks = []; stepped = None }
+  acks_closed_with conn (Some k) (Some m) d = record (acks_recorded conn d.acks (stepped_or m d.stepped) d) { acks = []; stepped = None }
   acks_closed_with conn k m d = record d { acks = []; stepped = None }
 
   abbrev pub acks_closed_if : Bool → ℕ → Draft → Draft
@@ -97,23 +97,23 @@ module _ (profile : Profile) (config : Config) (now : ℕ) where
 
   -- the record that is open is committed, and what it answers is put out
   abbrev pub acks_closed : ℕ → Draft → Draft
-  acks_closed conn d = acks_closed_if (is_nothing d.acks) conn d
+  acks_closed conn d = acks_closed_if (is_empty d.acks) conn d
 
   -- ---- the group that is open
 
   abbrev pub waiting_for : Ask → After → Draft → Draft
   waiting_for ask after d = record d { status = Waiting (ForGroup ask.shard ask.ops) after }
 
-  abbrev pub asked_with : ℕ → List PublishFields → Option PlainSession → Draft → Draft
-  asked_with conn ps None d = d
-  asked_with conn ps (Some m) d = waiting_for (publish_group (setting_in profile config now d) m ps) (AfterPublishes ps) d
+  abbrev pub group_asked_with : ℕ → List PublishFields → Option PlainSession → Draft → Draft
+  group_asked_with conn ps None d = d
+  group_asked_with conn ps (Some m) d = waiting_for (publish_group (setting_in profile config now d) m ps) (AfterPublishes ps) d
 
-  abbrev pub asked : ℕ → List PublishFields → Draft → Draft
-  asked conn ps d = asked_with conn ps (session_in d.worker conn) d
+  abbrev pub group_asked : ℕ → List PublishFields → Draft → Draft
+  group_asked conn ps d = group_asked_with conn ps (session_in d.worker conn) d
 
   -- the group that is open is asked of its shard
   abbrev pub group_closed : ℕ → Draft → Draft
-  group_closed conn d = if is_nothing d.group then d else record (asked conn d.group d) { group = [] }
+  group_closed conn d = if is_empty d.group then d else record (group_asked conn d.group d) { group = [] }
 
   abbrev pub group_closed_if : Bool → ℕ → Draft → Draft
   group_closed_if true conn d = group_closed conn d
@@ -126,23 +126,23 @@ module _ (profile : Profile) (config : Config) (now : ℕ) where
 
   abbrev pub goes_on_with : Option PlainConnection → Option PlainSession → PlainPacket → Draft → Bool
   goes_on_with (Some k) (Some m) (Publish p) d = joins (setting_in profile config now d) k m d.group p
-  goes_on_with (Some k) (Some m) packet d = is_joinable packet && is_nothing d.group
+  goes_on_with (Some k) (Some m) packet d = is_joinable packet && is_empty d.group
   goes_on_with k m packet d = false
 
-  abbrev pub goes_on_as : ℕ → Arrived → Draft → Bool
+  abbrev pub goes_on_as : ℕ → ReadAs → Draft → Bool
   goes_on_as conn (Closes reason rule) d = false
   goes_on_as conn (Is packet) d = goes_on_with (connection_in d.worker conn) (session_in d.worker conn) packet d
 
   -- a publish only where no record is open
   abbrev pub is_open_for : PlainPacket → Draft → Bool
-  is_open_for packet d = is_joinable packet || is_nothing d.acks
+  is_open_for packet d = is_joinable packet || is_empty d.acks
 
-  abbrev pub fits_open : Arrived → Draft → Bool
+  abbrev pub fits_open : ReadAs → Draft → Bool
   fits_open (Closes reason rule) d = false
   fits_open (Is packet) d = is_open_for packet d
 
   abbrev pub goes_on : ℕ → Token → Draft → Bool
-  goes_on conn (Whole bytes) d = goes_on_as conn (arrived (answer bytes)) d && fits_open (arrived (answer bytes)) d
+  goes_on conn (Whole bytes) d = goes_on_as conn (read_as (answer bytes)) d && fits_open (read_as (answer bytes)) d
   goes_on conn other d = false
 
   -- ---- a packet of a bound connection
@@ -163,8 +163,8 @@ module _ (profile : Profile) (config : Config) (now : ℕ) where
   packet_done conn packet step (close ∷ closes) groups d = closed_by conn packet close d
   packet_done conn packet step [] (ask ∷ asks) d = waiting_for ask (AfterRelease packet) d
   packet_done conn packet step [] [] d =
-      if is_nothing step.changes then told conn packet [] d
-      else answered profile config now conn (committed profile config now (OfPackets conn (packet ∷ [])) (length step.changes) d)
+      if is_empty step.changes then packet_answered conn packet [] d
+      else put_out_answer profile config now conn (committed_with_owed profile config now (OfPackets conn (packet ∷ [])) (length step.changes) d)
 
   abbrev pub step_done : ℕ → PlainPacket → Step → Draft → Draft
   step_done conn packet step d = packet_done conn packet step step.closes step.groups d
@@ -174,9 +174,9 @@ module _ (profile : Profile) (config : Config) (now : ℕ) where
   group_unless true conn d = d
   group_unless false conn d = group_closed conn d
 
-  abbrev pub published : ℕ → PublishFields → Bool → Step → Draft → Draft
-  published conn p true step d = group_unless profile.joins conn (record d { group = d.group ++ p ∷ [] })
-  published conn p false step d = step_done conn (Publish p) step d
+  abbrev pub publish_taken : ℕ → PublishFields → Bool → Step → Draft → Draft
+  publish_taken conn p true step d = group_unless profile.joins conn (record d { group = d.group ++ p ∷ [] })
+  publish_taken conn p false step d = step_done conn (Publish p) step d
 
   -- a receipt joins the record, if that has room for its changes; one that closes ends the record first
   abbrev pub acks_unless : Bool → ℕ → Draft → Draft
@@ -187,7 +187,7 @@ module _ (profile : Profile) (config : Config) (now : ℕ) where
   close_after conn packet close d = elim (d.status) as (λ s. Draft) [ Going ↦ closed_by conn packet close d | Waiting r a ↦ d | Ended ↦ d | Failed ↦ d ]
 
   abbrev pub is_full_with : Draft → Stepped → Step → Bool
-  is_full_with d st step = not (is_nothing st.changes) && nat_lt profile.changes (length d.worker.owed + (length st.changes + length step.changes))
+  is_full_with d st step = not (is_empty st.changes) && nat_lt profile.changes (length d.worker.owed + (length st.changes + length step.changes))
 
   abbrev pub joined_to : ℕ → PlainPacket → Stepped → Draft → Draft
   joined_to conn packet st d = acks_unless profile.joins conn (record d { acks = d.acks ++ packet ∷ []; stepped = Some st })
@@ -200,35 +200,35 @@ module _ (profile : Profile) (config : Config) (now : ℕ) where
   joined_if true conn packet d = joined_with conn packet (connection_in d.worker conn) (session_in d.worker conn) d
   joined_if false conn packet d = d
 
-  abbrev pub received_with : ℕ → PlainPacket → Stepped → Step → List Close → Draft → Draft
-  received_with conn packet st step (close ∷ closes) d = close_after conn packet close (acks_closed conn d)
-  received_with conn packet st step [] d =
+  abbrev pub receipt_taken_with : ℕ → PlainPacket → Stepped → Step → List Close → Draft → Draft
+  receipt_taken_with conn packet st step (close ∷ closes) d = close_after conn packet close (acks_closed conn d)
+  receipt_taken_with conn packet st step [] d =
       let ready = acks_unless (not (is_full_with d st step)) conn d in joined_if (is_going ready.status) conn packet ready
 
-  abbrev pub received : ℕ → PlainConnection → PlainPacket → Stepped → Draft → Draft
-  received conn k packet st d =
-      let step = packet_step (setting_in profile config now d) k st.session packet [] in received_with conn packet st step step.closes d
+  abbrev pub receipt_taken : ℕ → PlainConnection → PlainPacket → Stepped → Draft → Draft
+  receipt_taken conn k packet st d =
+      let step = packet_step (setting_in profile config now d) k st.session packet [] in receipt_taken_with conn packet st step step.closes d
 
-  abbrev pub taken_as : Bool → ℕ → PlainConnection → PlainSession → PlainPacket → Draft → Draft
-  taken_as true conn k m packet d = received conn k packet (stepped_or m d.stepped) d
-  taken_as false conn k m packet d = step_done conn packet (packet_step (setting_in profile config now d) k m packet []) d
+  abbrev pub packet_taken_as : Bool → ℕ → PlainConnection → PlainSession → PlainPacket → Draft → Draft
+  packet_taken_as true conn k m packet d = receipt_taken conn k packet (stepped_or m d.stepped) d
+  packet_taken_as false conn k m packet d = step_done conn packet (packet_step (setting_in profile config now d) k m packet []) d
 
-  abbrev pub taken_kind : ℕ → PlainConnection → PlainSession → PlainPacket → Draft → Draft
-  taken_kind conn k m (Publish p) d =
-      published conn p (is_asking (publish_case (setting_in profile config now d) k.held m p)) (packet_step (setting_in profile config now d) k m (Publish p) []) d
-  taken_kind conn k m packet d = taken_as (is_joinable packet) conn k m packet d
+  abbrev pub packet_taken_kind : ℕ → PlainConnection → PlainSession → PlainPacket → Draft → Draft
+  packet_taken_kind conn k m (Publish p) d =
+      publish_taken conn p (is_asking (publish_case (setting_in profile config now d) k.held m p)) (packet_step (setting_in profile config now d) k m (Publish p) []) d
+  packet_taken_kind conn k m packet d = packet_taken_as (is_joinable packet) conn k m packet d
 
   -- one that goes on with the group needs no case of its own
-  abbrev pub taken_if : Bool → ℕ → PlainConnection → PlainSession → PlainPacket → Draft → Draft
-  taken_if true conn k m (Publish p) d = record d { group = d.group ++ p ∷ [] }
-  taken_if true conn k m packet d = taken_kind conn k m packet d
-  taken_if false conn k m packet d = taken_kind conn k m packet d
+  abbrev pub packet_taken_if : Bool → ℕ → PlainConnection → PlainSession → PlainPacket → Draft → Draft
+  packet_taken_if true conn k m (Publish p) d = record d { group = d.group ++ p ∷ [] }
+  packet_taken_if true conn k m packet d = packet_taken_kind conn k m packet d
+  packet_taken_if false conn k m packet d = packet_taken_kind conn k m packet d
 
   abbrev pub packet_taken : ℕ → Option PlainConnection → Option PlainSession → PlainPacket → Draft → Draft
-  packet_taken conn (Some k) (Some m) packet d = taken_if (not (is_nothing d.group)) conn k m packet d
+  packet_taken conn (Some k) (Some m) packet d = packet_taken_if (not (is_empty d.group)) conn k m packet d
   packet_taken conn k m packet d = d
 
-  abbrev pub bound_taken : ℕ → Arrived → Draft → Draft
+  abbrev pub bound_taken : ℕ → ReadAs → Draft → Draft
   bound_taken conn (Closes reason rule) d = own_bound_closed profile config now conn (with_reason reason) rule d
   bound_taken conn (Is packet) d = packet_taken conn (connection_in d.worker conn) (session_in d.worker conn) packet d
 
@@ -238,27 +238,27 @@ module _ (profile : Profile) (config : Config) (now : ℕ) where
   bind_pushed conn d = push profile config now (Bind conn now) d
 
   -- the connection that the client had is taken over first
-  abbrev pub taken_over : List Close → Draft → Draft
-  taken_over [] d = d
-  taken_over (close ∷ closes) d = taken_over closes (not_open close.connection (push profile config now (TakeOver close.connection) d))
+  abbrev pub takeovers_pushed : List Close → Draft → Draft
+  takeovers_pushed [] d = d
+  takeovers_pushed (close ∷ closes) d = takeovers_pushed closes (not_open close.connection (push profile config now (TakeOver close.connection) d))
 
-  abbrev pub accepted_if : Bool → ℕ → List Close → Draft → Draft
-  accepted_if true conn closes d = answered profile config now conn (bind_pushed conn (taken_over closes d))
-  accepted_if false conn closes d = d
+  abbrev pub connect_bound_if : Bool → ℕ → List Close → Draft → Draft
+  connect_bound_if true conn closes d = put_out_answer profile config now conn (bind_pushed conn (takeovers_pushed closes d))
+  connect_bound_if false conn closes d = d
 
-  abbrev pub accepted : ℕ → List Close → Draft → Draft
-  accepted conn closes d = accepted_if (is_going d.status) conn closes d
+  abbrev pub connect_bound : ℕ → List Close → Draft → Draft
+  connect_bound conn closes d = connect_bound_if (is_going d.status) conn closes d
 
-  abbrev pub connected_unless : Option ℕ → ℕ → ConnectFields → Step → Draft → Draft
-  connected_unless (Some reason) conn c step d = connect_refused conn reason 0 d
-  connected_unless None conn c step d = accepted conn step.closes (committed profile config now (OfConnect conn c) (length step.changes) d)
+  abbrev pub connect_taken_unless : Option ℕ → ℕ → ConnectFields → Step → Draft → Draft
+  connect_taken_unless (Some reason) conn c step d = connect_refused conn reason 0 d
+  connect_taken_unless None conn c step d = connect_bound conn step.closes (committed_with_owed profile config now (OfConnect conn c) (length step.changes) d)
 
-  abbrev pub connected : ℕ → ConnectFields → Draft → Draft
-  connected conn c d =
-      connected_unless (connect_refusal (setting_in profile config now d) c) conn c (connect_step (setting_in profile config now d) conn c) d
+  abbrev pub connect_taken : ℕ → ConnectFields → Draft → Draft
+  connect_taken conn c d =
+      connect_taken_unless (connect_refusal (setting_in profile config now d) c) conn c (connect_step (setting_in profile config now d) conn c) d
 
   abbrev pub first_packet : ℕ → PlainPacket → Draft → Draft
-  first_packet conn (Connect c) d = connected conn c d
+  first_packet conn (Connect c) d = connect_taken conn c d
   first_packet conn other d = own_unbound_closed conn Reason.rule_no_connect d
 
   abbrev pub first_read : ℕ → Result PlainPacket ReadRefused → Draft → Draft
@@ -279,7 +279,7 @@ module _ (profile : Profile) (config : Config) (now : ℕ) where
   -- ---- a token
 
   abbrev pub whole_taken : ℕ → List ℕ → Option PlainConnection → Draft → Draft
-  whole_taken conn bytes (Some k) d = bound_taken conn (arrived (answer bytes)) d
+  whole_taken conn bytes (Some k) d = bound_taken conn (read_as (answer bytes)) d
   whole_taken conn bytes None d = first_taken conn bytes d
 
   abbrev pub bad_taken : ℕ → BadHeader → Option PlainConnection → Draft → Draft
@@ -292,11 +292,11 @@ module _ (profile : Profile) (config : Config) (now : ℕ) where
   token_handled conn EndOfPiece d = d
 
   -- what can't go on with what is open closes that first; what waits for a shard leaves the token for later
-  abbrev pub retaken : ℕ → Token → Status → Draft → Draft
-  retaken conn token Going d = token_handled conn token d
-  retaken conn token (Waiting request after) d = record d { rest = d.rest ++ token ∷ [] }
-  retaken conn token Ended d = d
-  retaken conn token Failed d = d
+  abbrev pub token_retaken : ℕ → Token → Status → Draft → Draft
+  token_retaken conn token Going d = token_handled conn token d
+  token_retaken conn token (Waiting request after) d = record d { rest = d.rest ++ token ∷ [] }
+  token_retaken conn token Ended d = d
+  token_retaken conn token Failed d = d
 
   abbrev pub closed_unless : Bool → ℕ → Draft → Draft
   closed_unless true conn d = d
@@ -306,7 +306,7 @@ module _ (profile : Profile) (config : Config) (now : ℕ) where
   ready_for conn token d = closed_unless (goes_on conn token d) conn d
 
   abbrev pub token_taken : ℕ → Token → Status → Draft → Draft
-  token_taken conn token Going d = let ready = ready_for conn token d in retaken conn token ready.status ready
+  token_taken conn token Going d = let ready = ready_for conn token d in token_retaken conn token ready.status ready
   token_taken conn token (Waiting request after) d = record d { rest = d.rest ++ token ∷ [] }
   token_taken conn token Ended d = d
   token_taken conn token Failed d = d
@@ -328,6 +328,6 @@ module _ (profile : Profile) (config : Config) (now : ℕ) where
   fed_taken conn f d =
       tokens_taken conn (tokens_of f) (record d { beside = record d.beside { readings = with_framer conn f.framer d.beside.readings } })
 
-  abbrev pub piece_taken : ℕ → List ℕ → Option Reading → Draft → Draft
+  abbrev pub piece_taken : ℕ → List ℕ → Option OpenConnection → Draft → Draft
   piece_taken conn piece None d = d
   piece_taken conn piece (Some r) d = fed_taken conn (fed r.framer piece) d

@@ -86,18 +86,18 @@ on_connection number f (k ∷ ks) = changed_if (k.number == number) f k ∷ on_c
 
 -- ---- what packets do to it
 
-abbrev pub holds : ℕ → List ℕ → Bool
-holds id held = list_any (λ (h : ℕ). h == id) held
+abbrev pub is_held : ℕ → List ℕ → Bool
+is_held id held = list_any (λ (h : ℕ). h == id) held
 
 abbrev pub with_held : ℕ → List ℕ → List ℕ
-with_held id held = if holds id held then held else held ++ id ∷ []
+with_held id held = if is_held id held then held else held ++ id ∷ []
 
 abbrev pub all_held : List ℕ → List ℕ → List ℕ
 all_held [] held = held
 all_held (id ∷ ids) held = all_held ids (with_held id held)
 
 abbrev pub without_held : List ℕ → List ℕ → List ℕ
-without_held freed held = filter (λ (h : ℕ). not (holds h freed)) held
+without_held freed held = filter (λ (h : ℕ). not (is_held h freed)) held
 
 -- What packets do to their connection: how many messages they finish, which give back as much of the quota, never above its start (MQTT
 -- 4.9); identifiers of QoS 2 that it holds from then on, and those that it no longer does.

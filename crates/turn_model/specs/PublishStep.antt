@@ -18,7 +18,7 @@ use Rattle.mqtt_props.specs.Lookup.{first_of, two_in, four_in, var_in, forwarded
 use Rattle.mqtt_props.specs.Props.{spelled_bare}
 use Rattle.mqtt_packet.specs.declared.packet.AckKind.TheVariants.{Puback, Pubrec, Pubcomp}
 use Rattle.mqtt_packet.specs.Packet.{PlainPacket, PublishFields, ack}
-use Rattle.turn_model.specs.PlainConnection.{PlainConnection, Effects, no_effects, holds}
+use Rattle.turn_model.specs.PlainConnection.{PlainConnection, Effects, no_effects, is_held}
 use Rattle.turn_model.specs.Step.{Setting, Ask, Outcome, Kept, IsFull, AwaitsTooMany, Faulted, Reply, reply, Step, asking, replying, closing}
 use Rattle.turn_model.specs.Reasons as Reason
 
@@ -48,8 +48,8 @@ abbrev pub is_2 : PublishFields → Bool
 is_2 p = p.qos == 2
 
 -- an identifier that isn't held where as many are held as may be
-abbrev pub has_no_place : Profile → List ℕ → PublishFields → Bool
-has_no_place profile held p = is_2 p && (not (holds p.id held) && nat_le profile.held (length held))
+abbrev pub has_no_held_place : Profile → List ℕ → PublishFields → Bool
+has_no_held_place profile held p = is_2 p && (not (is_held p.id held) && nat_le profile.held (length held))
 
 -- the first that holds, where these identifiers are held (MQTT 3.3.2, 3.3.4, 4.3.3)
 abbrev pub publish_case : Setting → List ℕ → PlainSession → PublishFields → PublishCase
@@ -58,7 +58,7 @@ publish_case s held m p =
     else if length p.topic == 0 then Closes Reason.protocol_error Reason.rule_empty_topic
     else if is_some (first_of var_in p.props) then Closes Reason.protocol_error Reason.rule_identifier_of_client
     else if p.retain then Closes Reason.no_retained_messages 0
-    else if has_no_place s.profile held p then Closes Reason.receive_maximum_exceeded 0
+    else if has_no_held_place s.profile held p then Closes Reason.receive_maximum_exceeded 0
     else if is_2 p && is_awaited s m p.id then Repeats
     else if begins_with 0x24 p.topic || has_many_levels p.topic then Refuses Reason.bad_topic_name
     else if not s.profile.expires && is_some (first_of (four_in MESSAGE_EXPIRY_INTERVAL) p.props) then Refuses Reason.implementation_error
@@ -67,8 +67,8 @@ publish_case s held m p =
 -- ---- the message, and the group
 
 -- what is stored of a publish: its offset and stamp come from the shard
-abbrev pub message_of : PlainSession → PublishFields → StoredMessage
-message_of m p =
+abbrev pub published_message : PlainSession → PublishFields → StoredMessage
+published_message m p =
     record {
       offset = 0;
       publisher = m.client;
@@ -110,7 +110,7 @@ abbrev pub owed_forgets : Setting → ℕ → List Op
 owed_forgets s shard = if s.profile.forgets_too then forgets_in s (slice_get s.seen shard) else []
 
 abbrev pub store_of : PlainSession → PublishFields → Op
-store_of m p = Store (message_of m p)
+store_of m p = Store (published_message m p)
 
 -- the group of several publishes of one session
 abbrev pub publish_group : Setting → PlainSession → List PublishFields → Ask
@@ -135,14 +135,14 @@ abbrev pub most_publishes : Setting → ℕ
 most_publishes s = min s.profile.group s.config.messages
 
 abbrev pub group_bytes : PlainSession → List PublishFields → ℕ
-group_bytes m ps = sum_by (λ (p : PublishFields). store_size (message_of m p)) ps
+group_bytes m ps = sum_by (λ (p : PublishFields). store_size (published_message m p)) ps
 
 -- One more publish joins a group: it is to be stored too, its identifier isn't among theirs, and the group stays within its limits.
 abbrev pub joins : Setting → PlainConnection → PlainSession → List PublishFields → PublishFields → Bool
 joins s k m group p =
     s.profile.joins
     && (is_asking (publish_case s (k.held ++ ids_of group) m p)
-    && (not (is_2 p && holds p.id (ids_of group))
+    && (not (is_2 p && is_held p.id (ids_of group))
     && (nat_lt (length group) (most_publishes s) && nat_le (group_bytes m (group ++ p ∷ [])) s.profile.group_bytes)))
 
 abbrev pub join_all : Setting → PlainConnection → PlainSession → List PublishFields → List PublishFields → Bool
@@ -157,8 +157,8 @@ are_group s k m (p ∷ ps) = is_asking (publish_case s k.held m p) && join_all s
 -- ---- answers
 
 -- PUBACK or PUBREC with a reason, and nothing with QoS 0 (MQTT 4.3)
-abbrev pub acknowledged : PublishFields → ℕ → List PlainPacket
-acknowledged p reason =
+abbrev pub acknowledgement : PublishFields → ℕ → List PlainPacket
+acknowledgement p reason =
     if p.qos == 0 then [] else if p.qos == 1 then ack Puback p.id reason [] ∷ [] else ack Pubrec p.id reason [] ∷ []
 
 -- a PUBREC of success holds the identifier from then on
@@ -182,28 +182,28 @@ abbrev pub last_stored : PlainSession → ℕ → Option ShardList → Option St
 last_stored m id None = None
 last_stored m id (Some list) = last_of (filter (is_message_of (record { publisher = m.client; incarnation = m.incarnation; id = id })) list.messages)
 
-abbrev pub of_shard : ℕ → Option StoredMessage → Option (ℕ × StoredMessage)
-of_shard shard None = None
-of_shard shard (Some w) = Some (shard, w)
+abbrev pub with_shard : ℕ → Option StoredMessage → Option (ℕ × StoredMessage)
+with_shard shard None = None
+with_shard shard (Some w) = Some (shard, w)
 
-abbrev pub repeated : Setting → PlainSession → PublishFields → Step
-repeated s m p =
-    replying (acked_replies (acknowledged p Reason.success) (of_shard (shard_for s m) (last_stored m p.id (slice_get s.seen (shard_for s m))))) (holding p)
+abbrev pub repeat_step : Setting → PlainSession → PublishFields → Step
+repeat_step s m p =
+    replying (acked_replies (acknowledgement p Reason.success) (with_shard (shard_for s m) (last_stored m p.id (slice_get s.seen (shard_for s m))))) (holding p)
 
-abbrev pub refused : PublishFields → ℕ → Step
-refused p reason = replying (plain_replies (acknowledged p reason)) no_effects
+abbrev pub refused_publish : PublishFields → ℕ → Step
+refused_publish p reason = replying (plain_replies (acknowledgement p reason)) no_effects
 
 abbrev pub publish_by_case : Setting → PlainConnection → PlainSession → PublishFields → PublishCase → Step
 publish_by_case s k m p (Closes reason rule) = closing k.number reason rule
-publish_by_case s k m p Repeats = repeated s m p
-publish_by_case s k m p (Refuses reason) = refused p reason
+publish_by_case s k m p Repeats = repeat_step s m p
+publish_by_case s k m p (Refuses reason) = refused_publish p reason
 publish_by_case s k m p Asks = asking (publish_group s m (p ∷ []))
 
 -- by the outcome of the group that it asked for
 abbrev pub publish_by_outcome : PlainConnection → PublishFields → Outcome → Step
-publish_by_outcome k p Kept = replying (plain_replies (acknowledged p Reason.success)) (holding p)
-publish_by_outcome k p IsFull = refused p Reason.quota_exceeded
-publish_by_outcome k p AwaitsTooMany = refused p Reason.quota_exceeded
+publish_by_outcome k p Kept = replying (plain_replies (acknowledgement p Reason.success)) (holding p)
+publish_by_outcome k p IsFull = refused_publish p Reason.quota_exceeded
+publish_by_outcome k p AwaitsTooMany = refused_publish p Reason.quota_exceeded
 publish_by_outcome k p Faulted = closing k.number Reason.implementation_error 0
 
 abbrev pub publish_step : Setting → PlainConnection → PlainSession → PublishFields → List Outcome → Step
@@ -215,16 +215,16 @@ publish_step s k m p (outcome ∷ outcomes) = publish_by_outcome k p outcome
 abbrev pub freeing : ℕ → Effects
 freeing id = record no_effects { freed = id ∷ [] }
 
-abbrev pub completed : ℕ → ℕ → Step
-completed id reason = replying (reply (ack Pubcomp id reason []) ∷ []) (freeing id)
+abbrev pub completion_step : ℕ → ℕ → Step
+completion_step id reason = replying (reply (ack Pubcomp id reason []) ∷ []) (freeing id)
 
 abbrev pub pubrel_by_outcome : PlainConnection → ℕ → Outcome → Step
-pubrel_by_outcome k id Kept = completed id Reason.success
+pubrel_by_outcome k id Kept = completion_step id Reason.success
 pubrel_by_outcome k id other = closing k.number Reason.implementation_error 0
 
 -- a message is released once; any other identifier isn't known (MQTT 3.7.2.1)
 abbrev pub pubrel_step : Setting → PlainConnection → PlainSession → ℕ → List Outcome → Step
-pubrel_step s k m id [] = if is_awaited s m id then asking (release_group s m id) else completed id Reason.no_packet_identifier
+pubrel_step s k m id [] = if is_awaited s m id then asking (release_group s m id) else completion_step id Reason.no_packet_identifier
 pubrel_step s k m id (outcome ∷ outcomes) = pubrel_by_outcome k id outcome
 
 -- ---- what a stored group acknowledges

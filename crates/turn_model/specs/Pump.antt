@@ -32,13 +32,13 @@ abbrev pub pairs_of : PlainSession → List Pair
 pairs_of m = flat_map (λ (s : Subscription). if s.live then pairs_with s 0 s.starts s.sweeps else []) m.subscriptions
 
 -- behind the pair that was served last
-abbrev pub is_behind : ℕ × ℕ → Pair → Bool
-is_behind served p = nat_lt served.0 p.subscription.number || ((served.0 == p.subscription.number) && nat_lt served.1 p.shard)
+abbrev pub is_behind_served : ℕ × ℕ → Pair → Bool
+is_behind_served served p = nat_lt served.0 p.subscription.number || ((served.0 == p.subscription.number) && nat_lt served.1 p.shard)
 
 -- in the order in which a connection serves them: by number, cyclically behind the one served last
 abbrev pub pairs_after : Option (ℕ × ℕ) → List Pair → List Pair
 pairs_after None pairs = pairs
-pairs_after (Some served) pairs = filter (is_behind served) pairs ++ filter (λ p. not (is_behind served p)) pairs
+pairs_after (Some served) pairs = filter (is_behind_served served) pairs ++ filter (λ p. not (is_behind_served served p)) pairs
 
 -- ---- what is issued of one pair
 

@@ -25,15 +25,15 @@ message_in offset None = None
 message_in offset (Some list) = message_at list offset
 
 -- none below the floor
-abbrev pub message_of : List ShardList → Entry → Option StoredMessage
-message_of lists e = message_in e.offset (slice_get lists e.shard)
+abbrev pub message_for : List ShardList → Entry → Option StoredMessage
+message_for lists e = message_in e.offset (slice_get lists e.shard)
 
-abbrev pub is_below : ℕ → Option ShardList → Bool
-is_below offset None = true
-is_below offset (Some list) = nat_lt offset (floor_of list)
+abbrev pub is_below_in : ℕ → Option ShardList → Bool
+is_below_in offset None = true
+is_below_in offset (Some list) = nat_lt offset (floor_of list)
 
 abbrev pub is_below_floor : List ShardList → Entry → Bool
-is_below_floor lists e = is_below e.offset (slice_get lists e.shard)
+is_below_floor lists e = is_below_in e.offset (slice_get lists e.shard)
 
 -- ---- at the bind
 
@@ -69,7 +69,7 @@ again_with limit now kind v w = Passes
 
 abbrev pub again_unless : Bool → PlainSession → ℕ → ℕ → List ShardList → Entry → Again
 again_unless true m limit now lists e = Releases (pubrel e.kind)
-again_unless false m limit now lists e = again_with limit now e.kind (version_numbered e.version m) (message_of lists e)
+again_unless false m limit now lists e = again_with limit now e.kind (version_numbered e.version m) (message_for lists e)
 
 -- what an unfinished entry gives, for a client that takes so long a packet, at a moment
 abbrev pub again : PlainSession → ℕ → ℕ → List ShardList → Entry → Again
@@ -88,10 +88,10 @@ pub record Resent : Type 0 where
   pub passed : List Entry
   pub rest : List Entry
 
-abbrev pub taken_as : Again → Entry → Resent → Resent
-taken_as (Releases packet) e r = record r { room = r.room - 1; taken = r.taken ++ e ∷ []; packets = r.packets ++ packet ∷ [] }
-taken_as (Publishes packet) e r = record r { room = r.room - 1; quota = r.quota - 1; taken = r.taken ++ e ∷ []; packets = r.packets ++ packet ∷ [] }
-taken_as Passes e r = record r { room = r.room - 1; taken = r.taken ++ e ∷ []; passed = r.passed ++ e ∷ [] }
+abbrev pub entry_taken_as : Again → Entry → Resent → Resent
+entry_taken_as (Releases packet) e r = record r { room = r.room - 1; taken = r.taken ++ e ∷ []; packets = r.packets ++ packet ∷ [] }
+entry_taken_as (Publishes packet) e r = record r { room = r.room - 1; quota = r.quota - 1; taken = r.taken ++ e ∷ []; packets = r.packets ++ packet ∷ [] }
+entry_taken_as Passes e r = record r { room = r.room - 1; taken = r.taken ++ e ∷ []; passed = r.passed ++ e ∷ [] }
 
 -- a PUBLISH for which the quota is 0 stops it
 abbrev pub waits_for_quota : ℕ → Again → Bool
@@ -102,24 +102,24 @@ waits_for_quota quota Passes = false
 abbrev pub left_in : Entry → Resent → Resent
 left_in e r = record r { stopped = true; rest = r.rest ++ e ∷ [] }
 
-abbrev pub taken_if : Bool → Again → Entry → Resent → Resent
-taken_if true a e r = taken_as a e r
-taken_if false a e r = left_in e r
+abbrev pub entry_taken_if : Bool → Again → Entry → Resent → Resent
+entry_taken_if true a e r = entry_taken_as a e r
+entry_taken_if false a e r = left_in e r
 
 abbrev pub may_take : Again → Resent → Bool
 may_take a r = not r.stopped && (nat_lt 0 r.room && not (waits_for_quota r.quota a))
 
-abbrev pub taken_one : PlainSession → ℕ → ℕ → List ShardList → Entry → Resent → Resent
-taken_one m limit now lists e r = taken_if (may_take (again m limit now lists e) r) (again m limit now lists e) e r
+abbrev pub entry_taken : PlainSession → ℕ → ℕ → List ShardList → Entry → Resent → Resent
+entry_taken m limit now lists e r = entry_taken_if (may_take (again m limit now lists e) r) (again m limit now lists e) e r
 
-abbrev pub taken_all : PlainSession → ℕ → ℕ → List ShardList → List Entry → Resent → Resent
-taken_all m limit now lists [] r = r
-taken_all m limit now lists (e ∷ es) r = taken_all m limit now lists es (taken_one m limit now lists e r)
+abbrev pub entries_taken : PlainSession → ℕ → ℕ → List ShardList → List Entry → Resent → Resent
+entries_taken m limit now lists [] r = r
+entries_taken m limit now lists (e ∷ es) r = entries_taken m limit now lists es (entry_taken m limit now lists e r)
 
 -- From the front of what is left: at most a batch of entries, up to the first PUBLISH for which the quota is 0.
 abbrev pub resent : Profile → ℕ → PlainSession → PlainConnection → List ShardList → Resent
 resent profile now m k lists =
-    taken_all m k.packet_limit now lists (rest_of m k)
+    entries_taken m k.packet_limit now lists (rest_of m k)
     (record { stopped = false; room = batch_of_session profile m; quota = k.quota; taken = []; packets = []; passed = []; rest = [] })
 
 -- the connection after that
@@ -161,4 +161,4 @@ issued_with now kind v w = []
 abbrev pub issued_packets : ℕ → PlainSession → List ShardList → List Entry → List PlainPacket
 issued_packets now m lists [] = []
 issued_packets now m lists (e ∷ es) =
-    issued_with now e.kind (version_numbered e.version m) (message_of lists e) ++ issued_packets now m lists es
+    issued_with now e.kind (version_numbered e.version m) (message_for lists e) ++ issued_packets now m lists es

@@ -65,8 +65,8 @@ abbrev pub answering : List Change → List PlainPacket → Planned
 answering changes replies = record { changes = changes; replies = replies; close = None; rule = 0 }
 
 -- a rule of the protocol is broken (MQTT 4.13.1)
-abbrev pub breaking : ℕ → Planned
-breaking rule = record { changes = []; replies = []; close = Some Reason.protocol_error; rule = rule }
+abbrev pub planned_breach : ℕ → Planned
+planned_breach rule = record { changes = []; replies = []; close = Some Reason.protocol_error; rule = rule }
 
 -- ---- SUBSCRIBE (MQTT 3.8)
 
@@ -75,19 +75,19 @@ abbrev pub live_with : List ℕ → PlainSession → Option Subscription
 live_with text m = find (λ (s : Subscription). s.live && bytes_eq (text_of_levels s.filter) text) m.subscriptions
 
 -- as the filters are gone through: the session so far, the changes, and the reasons
-pub record Answered : Type 0 where
+pub record FilterAnswers : Type 0 where
   pub session : PlainSession
   pub changes : List Change
   pub reasons : List ℕ
 
-abbrev pub answered : PlainSession → Answered
-answered m = record { session = m; changes = []; reasons = [] }
+abbrev pub no_filter_answers : PlainSession → FilterAnswers
+no_filter_answers m = record { session = m; changes = []; reasons = [] }
 
-abbrev pub reasoned : ℕ → Answered → Answered
-reasoned reason a = record a { reasons = a.reasons ++ reason ∷ [] }
+abbrev pub with_filter_reason : ℕ → FilterAnswers → FilterAnswers
+with_filter_reason reason a = record a { reasons = a.reasons ++ reason ∷ [] }
 
-abbrev pub changed : Effect → ℕ → Answered → Answered
-changed effect reason a =
+abbrev pub with_filter_change : Effect → ℕ → FilterAnswers → FilterAnswers
+with_filter_change effect reason a =
     record {
       session = changed_session effect a.session;
       changes = a.changes ++ change a.session.client effect ∷ [];
@@ -98,8 +98,8 @@ abbrev pub has_version_left : PlainSession → Bool
 has_version_left m = nat_lt (next_version m) greatest_of_four
 
 -- a new subscription has a place: among the live ones, among the texts that are kept, and a number of its own
-abbrev pub has_place : Profile → PlainSession → List ℕ → Bool
-has_place profile m text =
+abbrev pub has_subscription_place : Profile → PlainSession → List ℕ → Bool
+has_subscription_place profile m text =
     nat_lt (live_count m) profile.subscriptions
     && (nat_le (text_bytes m + length text) profile.filter_texts
     && (nat_lt (next_subscription m) greatest_of_four && has_version_left m))
@@ -119,16 +119,16 @@ subscribed_in m wish identifier starts =
       sweeps = starts;
     })
 
-abbrev pub granted_or : Bool → Effect → ℕ → Answered → Answered
-granted_or true effect options a = changed effect (qos_of options) a
-granted_or false effect options a = reasoned Reason.quota_exceeded a
+abbrev pub filter_granted_or : Bool → Effect → ℕ → FilterAnswers → FilterAnswers
+filter_granted_or true effect options a = with_filter_change effect (qos_of options) a
+filter_granted_or false effect options a = with_filter_reason Reason.quota_exceeded a
 
 -- An equal filter gives the live subscription a new version (MQTT 3.8.4), and another one is a new subscription.
-abbrev pub granted : Profile → Subscribing → Wish → Option Subscription → Answered → Answered
-granted profile s wish (Some live) a =
-    granted_or (has_version_left a.session) (replaced_in a.session live wish.options s.identifier) wish.options a
-granted profile s wish None a =
-    granted_or (has_place profile a.session wish.filter) (subscribed_in a.session wish s.identifier s.starts) wish.options a
+abbrev pub filter_granted : Profile → Subscribing → Wish → Option Subscription → FilterAnswers → FilterAnswers
+filter_granted profile s wish (Some live) a =
+    filter_granted_or (has_version_left a.session) (replaced_in a.session live wish.options s.identifier) wish.options a
+filter_granted profile s wish None a =
+    filter_granted_or (has_subscription_place profile a.session wish.filter) (subscribed_in a.session wish s.identifier s.starts) wish.options a
 
 -- why a filter is refused, whatever the session has: the first that holds
 abbrev pub filter_reason : Profile → ℕ → List ℕ → Option ℕ
@@ -138,39 +138,39 @@ filter_reason profile place text =
     else if nat_le profile.granted place then Some Reason.quota_exceeded
     else None
 
-abbrev pub wished_with : Profile → Subscribing → Wish → Option ℕ → Answered → Answered
-wished_with profile s wish (Some reason) a = reasoned reason a
-wished_with profile s wish None a = granted profile s wish (live_with wish.filter a.session) a
+abbrev pub filter_asked : Profile → Subscribing → Wish → Option ℕ → FilterAnswers → FilterAnswers
+filter_asked profile s wish (Some reason) a = with_filter_reason reason a
+filter_asked profile s wish None a = filter_granted profile s wish (live_with wish.filter a.session) a
 
 -- each filter in turn, from this place in the packet on
-abbrev pub wished : Profile → Subscribing → ℕ → List Wish → Answered → Answered
-wished profile s place [] a = a
-wished profile s place (wish ∷ wishes) a = wished profile s (place + 1) wishes (wished_with profile s wish (filter_reason profile place wish.filter) a)
+abbrev pub filters_asked : Profile → Subscribing → ℕ → List Wish → FilterAnswers → FilterAnswers
+filters_asked profile s place [] a = a
+filters_asked profile s place (wish ∷ wishes) a = filters_asked profile s (place + 1) wishes (filter_asked profile s wish (filter_reason profile place wish.filter) a)
 
-abbrev pub suback : ℕ → Answered → Planned
+abbrev pub suback : ℕ → FilterAnswers → Planned
 suback id a = answering a.changes (Suback (record { id = id; props = []; reasons = a.reasons }) ∷ [])
 
 abbrev pub subscribe_planned : Profile → PlainSession → Subscribing → Planned
-subscribe_planned profile m s = suback s.id (wished profile s 0 s.filters (answered m))
+subscribe_planned profile m s = suback s.id (filters_asked profile s 0 s.filters (no_filter_answers m))
 
 -- ---- UNSUBSCRIBE (MQTT 3.10)
 
-abbrev pub ended_or_not : Option Subscription → Answered → Answered
-ended_or_not (Some s) a = changed (Unsubscribed s.number) Reason.success a
-ended_or_not None a = reasoned Reason.no_subscription a
+abbrev pub ended_or_not : Option Subscription → FilterAnswers → FilterAnswers
+ended_or_not (Some s) a = with_filter_change (Unsubscribed s.number) Reason.success a
+ended_or_not None a = with_filter_reason Reason.no_subscription a
 
-abbrev pub unwished : List ℕ → Answered → Answered
-unwished text a = if is_some (filter_refusal text) then reasoned Reason.bad_filter a else ended_or_not (live_with text a.session) a
+abbrev pub filter_ended : List ℕ → FilterAnswers → FilterAnswers
+filter_ended text a = if is_some (filter_refusal text) then with_filter_reason Reason.bad_filter a else ended_or_not (live_with text a.session) a
 
-abbrev pub all_unwished : List (List ℕ) → Answered → Answered
-all_unwished [] a = a
-all_unwished (text ∷ texts) a = all_unwished texts (unwished text a)
+abbrev pub filters_ended : List (List ℕ) → FilterAnswers → FilterAnswers
+filters_ended [] a = a
+filters_ended (text ∷ texts) a = filters_ended texts (filter_ended text a)
 
-abbrev pub unsuback : ℕ → Answered → Planned
+abbrev pub unsuback : ℕ → FilterAnswers → Planned
 unsuback id a = answering a.changes (Unsuback (record { id = id; props = []; reasons = a.reasons }) ∷ [])
 
 abbrev pub unsubscribe_planned : PlainSession → Unsubscribing → Planned
-unsubscribe_planned m u = unsuback u.id (all_unwished u.filters (answered m))
+unsubscribe_planned m u = unsuback u.id (filters_ended u.filters (no_filter_answers m))
 
 -- ---- PUBACK, PUBREC, PUBCOMP (MQTT 4.3, 4.6)
 
@@ -194,7 +194,7 @@ is_next mark passed number = number == max mark passed + 1
 abbrev pub puback_of : PlainSession → ℕ → Option ℕ → Planned
 puback_of m passed None = changing []
 puback_of m passed (Some number) =
-    if is_next m.acked passed number then changing (change m.client (Acked number) ∷ []) else breaking Reason.rule_out_of_order
+    if is_next m.acked passed number then changing (change m.client (Acked number) ∷ []) else planned_breach Reason.rule_out_of_order
 
 -- a PUBREC with a reason of 80 or more finishes the entry, and nothing is released (MQTT 4.3.3)
 abbrev pub is_failure : ℕ → Bool
@@ -214,11 +214,11 @@ pubrec_of m a None = answering [] (pubrel_of a.id Reason.no_packet_identifier �
 pubrec_of m a (Some number) =
     if nat_le number m.received then answering [] (pubrel_of a.id Reason.success ∷ [])
     else if is_next m.received a.passed number then received_planned m a number
-    else breaking Reason.rule_out_of_order
+    else planned_breach Reason.rule_out_of_order
 
 abbrev pub pubcomp_of : PlainSession → Option ℕ → Planned
 pubcomp_of m None = changing []
-pubcomp_of m (Some number) = if nat_le number m.received then changing (change m.client (Done number) ∷ []) else breaking Reason.rule_not_received
+pubcomp_of m (Some number) = if nat_le number m.received then changing (change m.client (Done number) ∷ []) else planned_breach Reason.rule_not_received
 
 -- ---- the step of a session
 

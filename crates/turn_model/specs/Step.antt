@@ -85,14 +85,14 @@ closing_silently connection rule = record idle { closes = record { connection = 
 
 -- ---- what a step is owed
 
-abbrev pub is_nothing : {A : Type 0} → List A → Bool
-is_nothing [] = true
-is_nothing (x ∷ xs) = false
+abbrev pub is_empty : {A : Type 0} → List A → Bool
+is_empty [] = true
+is_empty (x ∷ xs) = false
 
 -- it asks for no group and doesn't close
 abbrev pub is_settled : Step → Bool
-is_settled step = is_nothing step.groups && is_nothing step.closes
+is_settled step = is_empty step.groups && is_empty step.closes
 
 -- and it changes nothing
 abbrev pub owes_nothing : Step → Bool
-owes_nothing step = is_settled step && is_nothing step.changes
+owes_nothing step = is_settled step && is_empty step.changes

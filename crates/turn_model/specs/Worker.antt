@@ -25,7 +25,7 @@ pub record Item : Type 0 where
 
 -- A record that was begun: what it begins with of the owed changes, its own, and the item that it hands on, none where its connection
 -- has ended.
-pub record Pending : Type 0 where
+pub record PendingRecord : Type 0 where
   pub owed : List Change
   pub changes : List Change
   pub item : Option Item
@@ -55,7 +55,7 @@ pub record Worker : Type 0 where
   pub owed : List Change
   pub connections : List PlainConnection
   pub seen : List ShardList
-  pub pending : Option Pending
+  pub pending : Option PendingRecord
   pub due : List Item
   pub history : List Note
 
@@ -109,8 +109,8 @@ abbrev pub are_sendable : ℕ → List Reply → Bool
 are_sendable limit [] = true
 are_sendable limit (r ∷ rs) = is_short limit r && are_sendable limit rs
 
-abbrev pub packets_of : List Reply → List PlainPacket
-packets_of rs = map (λ (r : Reply). r.packet) rs
+abbrev pub reply_packets : List Reply → List PlainPacket
+reply_packets rs = map (λ (r : Reply). r.packet) rs
 
 abbrev pub with_acked : Option (ℕ × StoredMessage) → List (ℕ × StoredMessage) → List (ℕ × StoredMessage)
 with_acked None later = later

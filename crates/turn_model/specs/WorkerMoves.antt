@@ -14,11 +14,11 @@ use Rattle.turn_model.specs.PlainConnection.{PlainConnection, Effects, no_effect
 use Rattle.turn_model.specs.Batch.{quota_used}
 use Rattle.turn_model.specs.MayIssue.{may_issue}
 use Rattle.turn_model.specs.Resend.{Resent, resent, resent_connection, with_rest, pass_changes, issued_packets}
-use Rattle.turn_model.specs.Step.{Setting, Outcome, Kept, IsFull, AwaitsTooMany, Faulted, Reply, Step, is_nothing, is_settled, owes_nothing}
-use Rattle.turn_model.specs.PublishStep.{acked_replies, acknowledged, holding, completed, of_shard}
+use Rattle.turn_model.specs.Step.{Setting, Outcome, Kept, IsFull, AwaitsTooMany, Faulted, Reply, Step, is_empty, is_settled, owes_nothing}
+use Rattle.turn_model.specs.PublishStep.{acked_replies, acknowledgement, holding, completion_step, with_shard}
 use Rattle.turn_model.specs.ConnectStep.{connect_refusal, connect_step, client_for, takeover_close}
 use Rattle.turn_model.specs.PacketStep.{packet_step, closed_step, tick_step}
-use Rattle.turn_model.specs.Worker.{Worker, Item, Answer, Answers, Accepts, Delivers, Pending, Note, note, SentAgain, Delivered, Out, Sent, Closed, sessions_of, setting_of, connection_in, session_in, sent_on, sendable, packets_of, acked_by}
+use Rattle.turn_model.specs.Worker.{Worker, Item, Answer, Answers, Accepts, Delivers, PendingRecord, Note, note, SentAgain, Delivered, Out, Sent, Closed, sessions_of, setting_of, connection_in, session_in, sent_on, sendable, reply_packets, acked_by}
 use Rattle.turn_model.specs.Worker as Worker
 use Rattle.turn_model.specs.Reasons as Reason
 
@@ -55,7 +55,7 @@ abbrev pub silently : Option ℕ → Ending
 silently expiry = record { reason = None; by_server = true; expiry = expiry }
 
 -- the packets of a connection whose group a shard stores, and the session that it was bound to
-pub record Asked : Type 0 where
+pub record Asker : Type 0 where
   pub worker : ℕ
   pub connection : ℕ
   pub client : List ℕ
@@ -70,7 +70,7 @@ pub data WorkerMove : Type 0 where
   -- what pends is found to be in or not, at a moment
   Settle : Bool → ℕ → WorkerMove
   -- a shard stored the group of these packets: for each publish the message that stands for it
-  Stored : ℕ → Asked → List (Option StoredMessage) → WorkerMove
+  Stored : ℕ → Asker → List (Option StoredMessage) → WorkerMove
   Emit : Emitted → ℕ → WorkerMove
   Bind : ℕ → ℕ → WorkerMove
   TakeOver : ℕ → WorkerMove
@@ -84,15 +84,15 @@ aged_answer (Answers rs effects) = Answers rs effects
 aged_answer (Accepts c client rs) = Accepts c client rs
 aged_answer (Delivers b fresh) = Delivers b false
 
-abbrev pub aged : Item → Item
-aged i = record i { answer = aged_answer i.answer }
+abbrev pub aged_item : Item → Item
+aged_item i = record i { answer = aged_answer i.answer }
 
-abbrev pub aged_pending : Option Pending → Option Pending
+abbrev pub aged_pending : Option PendingRecord → Option PendingRecord
 aged_pending None = None
-aged_pending (Some p) = Some (record p { item = elim (p.item) as (λ i. Option Item) [ None ↦ None | Some i ↦ Some (aged i) ] })
+aged_pending (Some p) = Some (record p { item = elim (p.item) as (λ i. Option Item) [ None ↦ None | Some i ↦ Some (aged_item i) ] })
 
-abbrev pub viewed : ℕ → ShardList → Worker → Worker
-viewed shard list w = record w { seen = slice_set w.seen shard list; pending = aged_pending w.pending; due = map aged w.due }
+abbrev pub with_view : ℕ → ShardList → Worker → Worker
+with_view shard list w = record w { seen = slice_set w.seen shard list; pending = aged_pending w.pending; due = map aged_item w.due }
 
 -- ---- records
 
@@ -127,24 +127,24 @@ stepped_all s k (packet ∷ packets) st = stepped_all s k packets (stepped_by (p
 
 -- a record has room for these changes behind all that is owed; those of one packet stay together however many they are
 abbrev pub has_room : Profile → Worker → List Change → Bool
-has_room profile w changes = is_nothing w.owed || nat_le (length w.owed + length changes) profile.changes
+has_room profile w changes = is_empty w.owed || nat_le (length w.owed + length changes) profile.changes
 
-abbrev pub pending_if : Bool → Worker → List Change → Option Item → Option Pending
+abbrev pub pending_if : Bool → Worker → List Change → Option Item → Option PendingRecord
 pending_if true w changes item = Some (record { owed = w.owed; changes = changes; item = item })
 pending_if false w changes item = None
 
 -- of some changes, where there is room
-abbrev pub pending_of : Profile → Worker → Bool → List Change → Option Item → Option Pending
-pending_of profile w allowed changes item = pending_if (allowed && (not (is_nothing changes) && has_room profile w changes)) w changes item
+abbrev pub pending_of : Profile → Worker → Bool → List Change → Option Item → Option PendingRecord
+pending_of profile w allowed changes item = pending_if (allowed && (not (is_empty changes) && has_room profile w changes)) w changes item
 
 abbrev pub item : ℕ → Answer → Item
 item conn answer = record { connection = conn; answer = answer }
 
 -- packets that ask for no group and don't close
-abbrev pub packets_pending : Profile → Worker → ℕ → Stepped → Option Pending
+abbrev pub packets_pending : Profile → Worker → ℕ → Stepped → Option PendingRecord
 packets_pending profile w conn st = pending_of profile w st.settled st.changes (Some (item conn (Answers st.replies st.effects)))
 
-abbrev pub packets_record : Setting → Worker → ℕ → List PlainPacket → Option PlainConnection → Option PlainSession → Option Pending
+abbrev pub packets_record : Setting → Worker → ℕ → List PlainPacket → Option PlainConnection → Option PlainSession → Option PendingRecord
 packets_record s w conn packets (Some k) (Some m) = packets_pending s.profile w conn (stepped_all s k packets (not_stepped m))
 packets_record s w conn packets k m = None
 
@@ -152,7 +152,7 @@ packets_record s w conn packets k m = None
 abbrev pub has_item : ℕ → List Item → Bool
 has_item conn is = list_any (λ (i : Item). i.connection == conn) is
 
-abbrev pub connect_record : Setting → Worker → ℕ → ConnectFields → Step → Option Pending
+abbrev pub connect_record : Setting → Worker → ℕ → ConnectFields → Step → Option PendingRecord
 connect_record s w conn c step =
     pending_of s.profile w
     (is_none (connection_in w conn) && (not (has_item conn w.due) && is_none (connect_refusal s c)))
@@ -172,13 +172,13 @@ abbrev pub delivering : ℕ → Option Issues → Option Item
 delivering conn None = None
 delivering conn (Some b) = Some (item conn (Delivers b true))
 
-abbrev pub pump_record : Setting → Worker → ℕ → Option Issues → Option PlainConnection → Option PlainSession → Option Pending
+abbrev pub pump_record : Setting → Worker → ℕ → Option Issues → Option PlainConnection → Option PlainSession → Option PendingRecord
 pump_record s w conn b (Some k) (Some m) =
     pending_of s.profile w (may_issue_if s m k b) (issued_change m b ++ pass_changes m k) (delivering conn b)
 pump_record s w conn b k m = None
 
 -- the sessions that are over end, as many as a record has room for
-abbrev pub tick_record : Setting → Worker → List Change → Option Pending
+abbrev pub tick_record : Setting → Worker → List Change → Option PendingRecord
 tick_record s w [] = None
 tick_record s w (c ∷ changes) =
     Some (record {
@@ -187,18 +187,18 @@ tick_record s w (c ∷ changes) =
       item = None;
     })
 
-abbrev pub owed_record : Profile → Worker → List Change → Option Pending
+abbrev pub owed_record : Profile → Worker → List Change → Option PendingRecord
 owed_record profile w [] = None
 owed_record profile w (c ∷ changes) = Some (record { owed = take profile.changes (c ∷ changes); changes = []; item = None })
 
-abbrev pub record_of : Setting → Worker → Cause → Option Pending
+abbrev pub record_of : Setting → Worker → Cause → Option PendingRecord
 record_of s w (OfPackets conn packets) = packets_record s w conn packets (connection_in w conn) (session_in w conn)
 record_of s w (OfConnect conn c) = connect_record s w conn c (connect_step s conn c)
 record_of s w (OfPump conn b) = pump_record s w conn b (connection_in w conn) (session_in w conn)
 record_of s w OfTick = tick_record s w (tick_step s.now s.connections s.sessions).changes
 record_of s w OfOwed = owed_record s.profile w w.owed
 
-abbrev pub begun_unless : Option Pending → Option Pending → Worker → Worker
+abbrev pub begun_unless : Option PendingRecord → Option PendingRecord → Worker → Worker
 begun_unless None (Some p) w = record w { pending = Some p }
 begun_unless pending asked w = w
 
@@ -220,7 +220,7 @@ abbrev pub not_of : List (List ℕ) → List Change → List Change
 not_of clients changes = filter (λ (c : Change). not (is_client_of clients c)) changes
 
 -- What it began with is no longer owed, nor is the end of a connection that came before its session is bound anew.
-abbrev pub with_record : Pending → Worker → Worker
+abbrev pub with_record : PendingRecord → Worker → Worker
 with_record p w =
     record w {
       committed = act_all w.committed (p.owed ++ p.changes);
@@ -232,9 +232,9 @@ abbrev pub handed_on : Option Item → Worker → Worker
 handed_on None w = w
 handed_on (Some i) w = record w { due = w.due ++ i ∷ [] }
 
-abbrev pub committed_by : Option Pending → Worker → Worker
-committed_by None w = w
-committed_by (Some p) w = handed_on p.item (with_record p w)
+abbrev pub record_committed : Option PendingRecord → Worker → Worker
+record_committed None w = w
+record_committed (Some p) w = handed_on p.item (with_record p w)
 
 -- a session without a connection parts at this moment, as nothing else would say when it ends
 abbrev pub parting : ℕ → Option PlainConnection → Option PlainSession → List Change
@@ -245,36 +245,36 @@ abbrev pub partings : ℕ → Worker → List (List ℕ) → List Change
 partings now w [] = []
 partings now w (client ∷ clients) = parting now (connection_of client w.connections) (session_of client w.committed) ++ partings now w clients
 
-abbrev pub settled_in : ℕ → Pending → Worker → Worker
+abbrev pub settled_in : ℕ → PendingRecord → Worker → Worker
 settled_in now p w = record w { owed = w.owed ++ partings now w (bound_by p.changes) }
 
-abbrev pub settled_by : Bool → ℕ → Option Pending → Worker → Worker
-settled_by goes_in now None w = w
-settled_by true now (Some p) w = settled_in now p (with_record p w)
-settled_by false now (Some p) w = record w { pending = None }
+abbrev pub record_settled : Bool → ℕ → Option PendingRecord → Worker → Worker
+record_settled goes_in now None w = w
+record_settled true now (Some p) w = settled_in now p (with_record p w)
+record_settled false now (Some p) w = record w { pending = None }
 
 -- ---- a group that is in
 
 abbrev pub stored_replies : ℕ → List PlainPacket → List (Option StoredMessage) → List Reply
 stored_replies shard [] messages = []
 stored_replies shard (Publish p ∷ packets) (message ∷ messages) =
-    acked_replies (acknowledged p Reason.success) (of_shard shard message) ++ stored_replies shard packets messages
+    acked_replies (acknowledgement p Reason.success) (with_shard shard message) ++ stored_replies shard packets messages
 stored_replies shard (Publish p ∷ packets) [] = stored_replies shard packets []
-stored_replies shard (Ack kind a ∷ packets) messages = (completed a.id Reason.success).replies ++ stored_replies shard packets messages
+stored_replies shard (Ack kind a ∷ packets) messages = (completion_step a.id Reason.success).replies ++ stored_replies shard packets messages
 stored_replies shard (other ∷ packets) messages = stored_replies shard packets messages
 
 abbrev pub stored_effects : List PlainPacket → Effects
 stored_effects [] = no_effects
 stored_effects (Publish p ∷ packets) = both_effects (holding p) (stored_effects packets)
-stored_effects (Ack kind a ∷ packets) = both_effects (completed a.id Reason.success).effects (stored_effects packets)
+stored_effects (Ack kind a ∷ packets) = both_effects (completion_step a.id Reason.success).effects (stored_effects packets)
 stored_effects (other ∷ packets) = stored_effects packets
 
 -- its client has the connection still
-abbrev pub has_asked : Asked → Option PlainConnection → Bool
+abbrev pub has_asked : Asker → Option PlainConnection → Bool
 has_asked a None = false
 has_asked a (Some k) = bytes_eq k.client a.client && (k.incarnation == a.incarnation)
 
-abbrev pub stored_if : Bool → ℕ → Asked → List (Option StoredMessage) → Worker → Worker
+abbrev pub stored_if : Bool → ℕ → Asker → List (Option StoredMessage) → Worker → Worker
 stored_if true shard a messages w =
     handed_on (Some (item a.connection (Answers (stored_replies shard a.packets messages) (stored_effects a.packets)))) w
 stored_if false shard a messages w = w
@@ -298,8 +298,8 @@ batch_packets now w b None = []
 batch_packets now w b (Some m) = issued_packets now m w.seen b.entries
 
 abbrev pub answer_packets : ℕ → Worker → PlainConnection → Answer → List PlainPacket
-answer_packets now w k (Answers rs effects) = packets_of (sendable k.packet_limit rs)
-answer_packets now w k (Accepts c client rs) = packets_of (sendable k.packet_limit rs)
+answer_packets now w k (Answers rs effects) = reply_packets (sendable k.packet_limit rs)
+answer_packets now w k (Accepts c client rs) = reply_packets (sendable k.packet_limit rs)
 answer_packets now w k (Delivers b fresh) = batch_packets now w b (session_in w k.number)
 
 abbrev pub after_answer : ℕ → Answer → PlainConnection → PlainConnection
@@ -390,7 +390,7 @@ abbrev pub kept_item : ℕ → Option Item → Option Item
 kept_item conn None = None
 kept_item conn (Some i) = if i.connection == conn then None else Some i
 
-abbrev pub kept_pending : ℕ → Option Pending → Option Pending
+abbrev pub kept_pending : ℕ → Option PendingRecord → Option PendingRecord
 kept_pending conn None = None
 kept_pending conn (Some p) = Some (record p { item = kept_item conn p.item })
 
@@ -399,13 +399,13 @@ abbrev pub without_items : ℕ → Worker → Worker
 without_items conn w =
     record w { due = filter (λ (i : Item). not (i.connection == conn)) w.due; pending = kept_pending conn w.pending }
 
-abbrev pub gone : ℕ → Worker → Worker
-gone conn w = without_items conn (record w { connections = without_connection conn w.connections })
+abbrev pub without_bound : ℕ → Worker → Worker
+without_bound conn w = without_items conn (record w { connections = without_connection conn w.connections })
 
 -- the session that it was bound to is owed its end
-abbrev pub unbound : ℕ → Ending → ℕ → Option PlainConnection → Worker → Worker
-unbound conn ending now None w = w
-unbound conn ending now (Some k) w = record (gone conn w) { owed = w.owed ++ (closed_step now (session_in w conn) ending.expiry).changes }
+abbrev pub unbound_from : ℕ → Ending → ℕ → Option PlainConnection → Worker → Worker
+unbound_from conn ending now None w = w
+unbound_from conn ending now (Some k) w = record (without_bound conn w) { owed = w.owed ++ (closed_step now (session_in w conn) ending.expiry).changes }
 
 -- a takeover owes nothing: the client goes on with another connection
 abbrev pub may_take_over : ℕ → List Item → Option PlainConnection → Bool
@@ -413,17 +413,17 @@ may_take_over conn is None = false
 may_take_over conn is (Some k) = list_any (accepts_client k.client conn) is
 
 abbrev pub taken_over_if : Bool → ℕ → Worker → Worker
-taken_over_if true conn w = gone conn w
+taken_over_if true conn w = without_bound conn w
 taken_over_if false conn w = w
 
 -- ---- the moves
 
 module _ (profile : Profile) (config : Config) where
   abbrev pub worker_step : Worker → WorkerMove → Worker
-  worker_step w (View shard list) = viewed shard list w
+  worker_step w (View shard list) = with_view shard list w
   worker_step w (BeginCommit cause now) = begun_unless w.pending (record_of (setting_of profile config now w) w cause) w
-  worker_step w Commit = committed_by w.pending w
-  worker_step w (Settle goes_in now) = settled_by goes_in now w.pending w
+  worker_step w Commit = record_committed w.pending w
+  worker_step w (Settle goes_in now) = record_settled goes_in now w.pending w
   worker_step w (Stored shard a messages) = stored_if (has_asked a (connection_in w a.connection)) shard a messages w
   worker_step w (Emit (OfItem place) now) = emitted_if place now (item_at w place) w
   worker_step w (Emit (OfPacket conn packet outcomes) now) =
@@ -431,7 +431,7 @@ module _ (profile : Profile) (config : Config) where
   worker_step w (Emit (OfResend conn) now) = resend_emitted conn (connection_in w conn) (resent_for profile now w (connection_in w conn) (session_in w conn)) w
   worker_step w (Bind conn now) = bound_if conn now (find (accepts_on conn) w.due) (connection_in w conn) w
   worker_step w (TakeOver conn) = taken_over_if (may_take_over conn w.due (connection_in w conn)) conn w
-  worker_step w (Unbind conn ending now) = unbound conn ending now (connection_in w conn) w
+  worker_step w (Unbind conn ending now) = unbound_from conn ending now (connection_in w conn) w
 
   -- ---- what they put out
 
@@ -444,7 +444,7 @@ module _ (profile : Profile) (config : Config) where
   emitted_outs now w (Some i) = item_outs now w i (connection_in w i.connection)
 
   abbrev pub step_outs : Option PlainConnection → Option Step → List Out
-  step_outs (Some k) (Some step) = sent_on k.number (packets_of (sendable k.packet_limit step.replies))
+  step_outs (Some k) (Some step) = sent_on k.number (reply_packets (sendable k.packet_limit step.replies))
   step_outs k step = []
 
   abbrev pub resend_outs : ℕ → Option Resent → List Out
@@ -454,16 +454,16 @@ module _ (profile : Profile) (config : Config) where
   abbrev pub disconnect : ℕ → PlainPacket
   disconnect reason = Disconnect (record { reason = reason; props = [] })
 
-  abbrev pub told : ℕ → Option ℕ → List Out
-  told conn None = []
-  told conn (Some reason) = Sent conn (disconnect reason) ∷ []
+  abbrev pub disconnect_outs : ℕ → Option ℕ → List Out
+  disconnect_outs conn None = []
+  disconnect_outs conn (Some reason) = Sent conn (disconnect reason) ∷ []
 
   abbrev pub ending_outs : ℕ → Ending → Option PlainConnection → List Out
   ending_outs conn ending None = []
-  ending_outs conn ending (Some k) = told conn ending.reason ++ (if ending.by_server then Closed conn ∷ [] else [])
+  ending_outs conn ending (Some k) = disconnect_outs conn ending.reason ++ (if ending.by_server then Closed conn ∷ [] else [])
 
   abbrev pub takeover_outs : Bool → ℕ → List Out
-  takeover_outs true conn = told conn (takeover_close conn).reason ++ Closed conn ∷ []
+  takeover_outs true conn = disconnect_outs conn (takeover_close conn).reason ++ Closed conn ∷ []
   takeover_outs false conn = []
 
   abbrev pub worker_outs : Worker → WorkerMove → List Out
@@ -502,9 +502,9 @@ module _ (profile : Profile) (config : Config) where
 -- ---- a crash
 
 -- No connections, the lists as they are stored, and what a restart owes; of what pended nothing is handed on.
-abbrev pub restarted : List ShardList → ℕ → Worker → Worker
-restarted lists now w =
+abbrev pub restarted_worker : List ShardList → ℕ → Worker → Worker
+restarted_worker lists now w =
     record w { owed = restart_owes now w.committed; connections = []; seen = lists; pending = None; due = [] }
 
 abbrev pub crashed_worker : List ShardList → ℕ → Bool → Worker → Worker
-crashed_worker lists now goes_in w = restarted lists now (settled_by goes_in now w.pending w)
+crashed_worker lists now goes_in w = restarted_worker lists now (record_settled goes_in now w.pending w)

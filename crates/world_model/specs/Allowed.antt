@@ -7,10 +7,10 @@ use Rattle.shard_model.specs.AllowedMoves.{shard_allows}
 use Rattle.mqtt_packet.specs.Packet.{PlainPacket}
 use Rattle.turn_model.specs.Step.{Ask}
 use Rattle.turn_model.specs.Worker.{Worker, setting_of, connection_in, session_in}
-use Rattle.turn_model.specs.WorkerMoves.{WorkerMove, Asked}
+use Rattle.turn_model.specs.WorkerMoves.{WorkerMove, Asker}
 use Rattle.turn_model.specs.WorkerMoves as Workers
 use Rattle.turn_model.specs.Allowed.{worker_allows}
-use Rattle.world_model.specs.World.{World, WorldShard, Move, Begin, Store, BeginRotate, Rotate, BeginDrop, Drop, SettleShard, Show, View, BeginCommit, Commit, SettleJournal, Emit, Bind, TakeOver, Unbind, Crash, ask_with, asked_with}
+use Rattle.world_model.specs.World.{World, WorldShard, Move, Begin, Store, BeginRotate, Rotate, BeginDrop, Drop, SettleShard, Show, View, BeginCommit, Commit, SettleJournal, Emit, Bind, TakeOver, Unbind, Crash, ask_with, asker_with}
 
 module _ (profile : Profile) (config : Config) where
   -- of a shard, or a worker, that is there
@@ -23,7 +23,7 @@ module _ (profile : Profile) (config : Config) where
   allows_worker move (Some w) = worker_allows profile config w move
 
   -- packets of a bound connection that ask for a group of this shard, which may be begun there
-  abbrev pub allows_group : ℕ → ℕ → Option Ask → Option Asked → Option WorldShard → Bool
+  abbrev pub allows_group : ℕ → ℕ → Option Ask → Option Asker → Option WorldShard → Bool
   allows_group shard now (Some ask) (Some asked) s = (ask.shard == shard) && allows_shard (Shards.Begin ask.ops now) s
   allows_group shard now ask asked s = false
 
@@ -32,7 +32,7 @@ module _ (profile : Profile) (config : Config) where
   allows_begin shard conn packets now (Some w) s =
       allows_group shard now
       (ask_with (setting_of profile config now w) packets (connection_in w conn) (session_in w conn))
-      (asked_with w.number conn packets (session_in w conn)) s
+      (asker_with w.number conn packets (session_in w conn)) s
 
 -- A View and a Crash always are; each other one where its shard, or its worker, allows it.
 abbrev pub world_allows : Profile → World → Move → Bool

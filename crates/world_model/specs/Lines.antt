@@ -27,8 +27,8 @@ pub data Line : Type 0 where
 
 -- ---- words
 
-abbrev pub connection_of : List ℕ → Option ℕ
-connection_of text = number_between 0 65535 text
+abbrev pub connection_number : List ℕ → Option ℕ
+connection_number text = number_between 0 65535 text
 
 abbrev pub bytes_or_none : Result (List ℕ) FromHexError → Option (List ℕ)
 bytes_or_none (Ok bytes) = Some bytes
@@ -72,17 +72,17 @@ line_of_one word = if is_word word (codes "look") then Some Look else None
 
 abbrev pub line_of_two : List ℕ → List ℕ → Option Line
 line_of_two word n =
-    if is_word word (codes "open") then if_number Open (connection_of n)
-    else if is_word word (codes "pump") then if_number Pump (connection_of n)
-    else if is_word word (codes "ack") then if_number Ack (connection_of n)
-    else if is_word word (codes "close") then if_number Close (connection_of n)
+    if is_word word (codes "open") then if_number Open (connection_number n)
+    else if is_word word (codes "pump") then if_number Pump (connection_number n)
+    else if is_word word (codes "ack") then if_number Ack (connection_number n)
+    else if is_word word (codes "close") then if_number Close (connection_number n)
     else if is_word word (codes "tick") then if_number Tick (number_between 0 1000000000 n)
     else if is_word word (codes "crash") then if_number Crash (number_between 0 4 n)
     else None
 
 abbrev pub line_of_three : Config → Bool → List ℕ → List ℕ → List ℕ → Option Line
 line_of_three config begun word a b =
-    if is_word word (codes "send") then if_both Send (connection_of a) (hex_of b)
+    if is_word word (codes "send") then if_both Send (connection_number a) (hex_of b)
     else if is_word word (codes "fail") then if_both Fail (number_between 0 (disks_of config - 1) a) (number_between 1 1000000 b)
     else if is_word word (codes "set") && not begun then set_to config a b
     else None
@@ -103,11 +103,11 @@ line_of config begun (b ∷ bs) = if b == 0x23 then Some Idle else line_of_words
 -- ---- a script
 
 -- As lines are read: the configuration so far, and whether a line of another kind came.
-pub record Reading : Type 0 where
+pub record ScriptReading : Type 0 where
   pub config : Config
   pub begun : Bool
 
-abbrev pub read_on : Line → Reading → Reading
+abbrev pub read_on : Line → ScriptReading → ScriptReading
 read_on Idle r = r
 read_on (Set config) r = record r { config = config }
 read_on other r = record r { begun = true }
@@ -121,10 +121,10 @@ pub record Script : Type 0 where
 abbrev pub in_front : Line → Script → Script
 in_front line s = record s { lines = line ∷ s.lines }
 
-abbrev pub no_lines : Reading → Option ℕ → Script
+abbrev pub no_lines : ScriptReading → Option ℕ → Script
 no_lines r bad = record { config = r.config; lines = []; bad = bad }
 
-abbrev pub script_from : ℕ → Reading → List (List ℕ) → Script
+abbrev pub script_from : ℕ → ScriptReading → List (List ℕ) → Script
 script_from number r [] = no_lines r None
 script_from number r (text ∷ texts) =
     elim (line_of r.config r.begun text) as (λ line. Script) [

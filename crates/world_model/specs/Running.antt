@@ -24,14 +24,14 @@ use Rattle.turn_model.specs.Step.{Outcome, Kept, IsFull, AwaitsTooMany, Faulted}
 use Rattle.turn_model.specs.Worker.{Worker, Out, Sent, Closed, sessions_of}
 use Rattle.turn_model.specs.WorkerMoves.{WorkerMove}
 use Rattle.turn_model.specs.WorkerMoves as Workers
-use Rattle.turn_model.specs.Draft.{Beside, Reading, Arrival, Opened, Bytes, ClosedByClient, Request, ForGroup, ForBodies, ForDrop, After, AfterPublishes, AfterRelease, AfterBodies, AfterDrop, Todo, Next, Asks, Done, JournalFault, Part, reading_at}
+use Rattle.turn_model.specs.Draft.{Beside, OpenConnection, Arrival, Opened, Bytes, ClosedByClient, Request, ForGroup, ForBodies, ForDrop, After, AfterPublishes, AfterRelease, AfterBodies, AfterDrop, Todo, Next, Asks, Done, JournalFault, Part, reading_at}
 use Rattle.turn_model.specs.Draft as Turn
-use Rattle.turn_model.specs.Parts.{Answered, GroupIs, BodiesRead, BodiesGone, BodiesFailed, DropDone, DropFailed, start_part, resume_part}
+use Rattle.turn_model.specs.Parts.{Response, GroupIs, BodiesRead, BodiesGone, BodiesFailed, DropDone, DropFailed, start_part, resume_part}
 use Rattle.world_model.specs.World.{World, WorldShard, Move, opening_world, at_place, shown_lists, after_moves}
 use Rattle.world_model.specs.World as Moves
 use Rattle.world_model.specs.Lines.{Line, Script, script_of}
 use Rattle.world_model.specs.Lines as Lines
-use Rattle.world_model.specs.Text.{text_of_outs, shard_text, worker_text, ended}
+use Rattle.world_model.specs.Text.{text_of_outs, shard_text, worker_text, ended_line}
 
 -- ---- chances
 
@@ -44,11 +44,11 @@ pub record Chances : Type 0 where
 abbrev pub number_at : ℕ → List ℕ → ℕ
 number_at place ns = elim (slice_get ns place) as (λ n. ℕ) [ None ↦ 0 | Some n ↦ n ]
 
-abbrev pub of_shard : ℕ → Chances → Fates
-of_shard shard c = record { choices = c.choices; armed = number_at shard c.shards }
+abbrev pub fates_of_shard : ℕ → Chances → Fates
+fates_of_shard shard c = record { choices = c.choices; armed = number_at shard c.shards }
 
-abbrev pub of_journal : ℕ → Chances → Fates
-of_journal worker c = record { choices = c.choices; armed = number_at worker c.journals }
+abbrev pub fates_of_journal : ℕ → Chances → Fates
+fates_of_journal worker c = record { choices = c.choices; armed = number_at worker c.journals }
 
 abbrev pub after_shard : ℕ → Fates → Chances → Chances
 after_shard shard f c = record c { choices = f.choices; shards = slice_set c.shards shard f.armed }
@@ -60,8 +60,8 @@ abbrev pub one_more : ℕ → ℕ
 one_more n = n + 1
 
 -- a device call of this disk fails once from now on: ten disks are a shard's, and two a journal's
-abbrev pub armed : Config → ℕ → Chances → Chances
-armed config disk c =
+abbrev pub with_armed : Config → ℕ → Chances → Chances
+with_armed config disk c =
     if nat_lt disk (10 * config.shards) then record c { shards = at_place (disk / 10) one_more c.shards }
     else record c { journals = at_place ((disk - 10 * config.shards) / 2) one_more c.journals }
 
@@ -98,13 +98,13 @@ of_one_shard shard worker conn packets Shards.Drop = Moves.Drop shard
 of_one_shard shard worker conn packets (Shards.Settle goes_in) = Moves.SettleShard shard goes_in
 of_one_shard shard worker conn packets Shards.Show = Moves.Show shard
 
-abbrev pub packets_of : Option After → List PlainPacket
-packets_of (Some (AfterPublishes ps)) = map (λ p. Publish p) ps
-packets_of (Some (AfterRelease packet)) = packet ∷ []
-packets_of other = []
+abbrev pub asking_packets : Option After → List PlainPacket
+asking_packets (Some (AfterPublishes ps)) = map (λ p. Publish p) ps
+asking_packets (Some (AfterRelease packet)) = packet ∷ []
+asking_packets other = []
 
-abbrev pub own_of : Todo → ℕ
-own_of todo = elim (todo.connection) as (λ c. ℕ) [ None ↦ 0 | Some conn ↦ conn ]
+abbrev pub connection_or_zero : Todo → ℕ
+connection_or_zero todo = elim (todo.connection) as (λ c. ℕ) [ None ↦ 0 | Some conn ↦ conn ]
 
 abbrev pub outcome_of : Appended → Outcome
 outcome_of (AppendedAt first next) = Kept
@@ -112,7 +112,7 @@ outcome_of Full = IsFull
 outcome_of AwaitFull = AwaitsTooMany
 outcome_of AppendFault = Faulted
 
-abbrev pub bodies_of : Fetched → Answered
+abbrev pub bodies_of : Fetched → Response
 bodies_of FetchedAll = BodiesRead
 bodies_of (Gone offset) = BodiesGone offset
 bodies_of FetchFault = BodiesFailed
@@ -130,52 +130,52 @@ module _ (profile : Profile) where
         next = part.next;
       }
 
-  abbrev pub resumed_with : ℕ → ℕ → Answered → Turning → Option Worker → Turning
-  resumed_with worker shard answer t None = t
-  resumed_with worker shard answer t (Some w) =
+  abbrev pub turn_resumed_with : ℕ → ℕ → Response → Turning → Option Worker → Turning
+  turn_resumed_with worker shard answer t None = t
+  turn_resumed_with worker shard answer t (Some w) =
       part_taken worker t.outs t.chances t.world
-      (resume_part profile t.world.config w t.beside t.todo shard answer (shown_lists t.world.shards) (of_journal worker t.chances))
+      (resume_part profile t.world.config w t.beside t.todo shard answer (shown_lists t.world.shards) (fates_of_journal worker t.chances))
 
-  abbrev pub resumed : ℕ → ℕ → Answered → Turning → Turning
-  resumed worker shard answer t = resumed_with worker shard answer t (slice_get t.world.workers worker)
+  abbrev pub turn_resumed : ℕ → ℕ → Response → Turning → Turning
+  turn_resumed worker shard answer t = turn_resumed_with worker shard answer t (slice_get t.world.workers worker)
 
   -- a call of a shard moves the world, and the turn goes on behind it
-  abbrev pub called : ℕ → ℕ → List ShardMove → Fates → Answered → Turning → Turning
-  called worker shard moves fates answer t =
-      resumed worker shard answer (record t {
-        world = after_moves profile t.world (map (of_one_shard shard worker (own_of t.todo) (packets_of t.todo.after)) moves);
+  abbrev pub shard_called : ℕ → ℕ → List ShardMove → Fates → Response → Turning → Turning
+  shard_called worker shard moves fates answer t =
+      turn_resumed worker shard answer (record t {
+        world = after_moves profile t.world (map (of_one_shard shard worker (connection_or_zero t.todo) (asking_packets t.todo.after)) moves);
         chances = after_shard shard fates t.chances;
       })
 
   abbrev pub appended_by : ℕ → ℕ → AppendCall → Turning → Turning
-  appended_by worker shard call t = called worker shard call.moves call.fates (GroupIs (outcome_of call.outcome)) t
+  appended_by worker shard call t = shard_called worker shard call.moves call.fates (GroupIs (outcome_of call.outcome)) t
 
   abbrev pub dropped_by : ℕ → ℕ → DropCall → Turning → Turning
-  dropped_by worker shard call t = called worker shard call.moves call.fates (if call.faulted then DropFailed else DropDone) t
+  dropped_by worker shard call t = shard_called worker shard call.moves call.fates (if call.faulted then DropFailed else DropDone) t
 
   abbrev pub fetched_by : ℕ → ℕ → FetchCall → Turning → Turning
-  fetched_by worker shard call t = called worker shard [] call.fates (bodies_of call.outcome) t
+  fetched_by worker shard call t = shard_called worker shard [] call.fates (bodies_of call.outcome) t
 
   abbrev pub asked_of : ℕ → Request → Turning → Option WorldShard → Turning
   asked_of worker request t None = t
   asked_of worker (ForGroup shard ops) t (Some s) =
-      appended_by worker shard (append_call profile t.world.config s.shard ops t.beside.last (of_shard shard t.chances)) t
-  asked_of worker (ForBodies shard places) t (Some s) = fetched_by worker shard (fetch_call s.shard.shown places (of_shard shard t.chances)) t
-  asked_of worker (ForDrop shard) t (Some s) = dropped_by worker shard (tick_call profile t.world.config s.shard t.beside.last (of_shard shard t.chances)) t
+      appended_by worker shard (append_call profile t.world.config s.shard ops t.beside.last (fates_of_shard shard t.chances)) t
+  asked_of worker (ForBodies shard places) t (Some s) = fetched_by worker shard (fetch_call s.shard.shown places (fates_of_shard shard t.chances)) t
+  asked_of worker (ForDrop shard) t (Some s) = dropped_by worker shard (tick_call profile t.world.config s.shard t.beside.last (fates_of_shard shard t.chances)) t
 
   abbrev pub shard_in : Request → ℕ
   shard_in (ForGroup shard ops) = shard
   shard_in (ForBodies shard places) = shard
   shard_in (ForDrop shard) = shard
 
-  abbrev pub turned_once : ℕ → Next → Turning → Turning
-  turned_once worker (Asks request) t = asked_of worker request t (slice_get t.world.shards (shard_in request))
-  turned_once worker other t = t
+  abbrev pub call_made : ℕ → Next → Turning → Turning
+  call_made worker (Asks request) t = asked_of worker request t (slice_get t.world.shards (shard_in request))
+  call_made worker other t = t
 
   -- at most so many calls
-  abbrev pub turned : ℕ → ℕ → Turning → Turning
-  turned worker zero t = t
-  turned worker (suc more) t = turned worker more (turned_once worker t.next t)
+  abbrev pub calls_made : ℕ → ℕ → Turning → Turning
+  calls_made worker zero t = t
+  calls_made worker (suc more) t = calls_made worker more (call_made worker t.next t)
 
   -- How many calls a turn makes at most. A pump and a Tick ask each shard once at most. Of a piece each packet asks for a group once at most,
   -- and each publish of a refused group once more; and a packet has two bytes or more.
@@ -191,8 +191,8 @@ module _ (profile : Profile) where
 
   abbrev pub turn : ℕ → Arrival → ℕ → Beside → Chances → World → Worker → Turning
   turn number arrival now beside chances world w =
-      turned number (most_calls world.config arrival beside)
-      (part_taken number [] chances world (start_part profile world.config w beside arrival now (shown_lists world.shards) (of_journal number chances)))
+      calls_made number (most_calls world.config arrival beside)
+      (part_taken number [] chances world (start_part profile world.config w beside arrival now (shown_lists world.shards) (fates_of_journal number chances)))
 
 -- ---- the run
 
@@ -268,20 +268,20 @@ pub record Crashing : Type 0 where
   pub choices : List Bool
   pub chances : Chances
 
-abbrev pub chosen_with : Drawn → Crashing → Crashing
-chosen_with drawn c = record { choices = c.choices ++ drawn.goes_in ∷ []; chances = record c.chances { choices = drawn.fates.choices } }
+abbrev pub choice_made_with : Drawn → Crashing → Crashing
+choice_made_with drawn c = record { choices = c.choices ++ drawn.goes_in ∷ []; chances = record c.chances { choices = drawn.fates.choices } }
 
-abbrev pub chosen : Bool → Crashing → Crashing
-chosen true c = chosen_with (draw (record { choices = c.chances.choices; armed = 0 })) c
-chosen false c = record c { choices = c.choices ++ false ∷ [] }
+abbrev pub choice_made : Bool → Crashing → Crashing
+choice_made true c = choice_made_with (draw (record { choices = c.chances.choices; armed = 0 })) c
+choice_made false c = record c { choices = c.choices ++ false ∷ [] }
 
 abbrev pub choose_shards : List WorldShard → Crashing → Crashing
 choose_shards [] c = c
-choose_shards (s ∷ ss) c = choose_shards ss (chosen (not (pends_nothing s.shard.pending)) c)
+choose_shards (s ∷ ss) c = choose_shards ss (choice_made (not (pends_nothing s.shard.pending)) c)
 
 abbrev pub choose_workers : List Worker → Crashing → Crashing
 choose_workers [] c = c
-choose_workers (w ∷ ws) c = choose_workers ws (chosen (is_some w.pending) c)
+choose_workers (w ∷ ws) c = choose_workers ws (choice_made (is_some w.pending) c)
 
 -- ---- texts
 
@@ -291,7 +291,7 @@ text_of_printed (printed ∷ earlier) text = text_of_printed earlier (printed ++
 
 -- what is printed for a script that isn't run
 abbrev pub bad_line_text : ℕ → List ℕ
-bad_line_text number = ended (codes "line " ++ (decimal number ++ codes ": not a script line"))
+bad_line_text number = ended_line (codes "line " ++ (decimal number ++ codes ": not a script line"))
 
 abbrev pub script_limit : ℕ
 script_limit = 67108864
@@ -313,17 +313,17 @@ module _ (profile : Profile) where
         printed = text_of_outs t.outs ∷ s.printed;
       }
 
-  abbrev pub taken_by : ℕ → Arrival → State → Option Beside → Option Worker → State
-  taken_by worker arrival s (Some beside) (Some w) = turn_done worker s (turn profile worker arrival s.clock beside s.chances s.world w)
-  taken_by worker arrival s beside w = s
+  abbrev pub turn_taken_by : ℕ → Arrival → State → Option Beside → Option Worker → State
+  turn_taken_by worker arrival s (Some beside) (Some w) = turn_done worker s (turn profile worker arrival s.clock beside s.chances s.world w)
+  turn_taken_by worker arrival s beside w = s
 
   -- one turn of a worker
-  abbrev pub taken : ℕ → Arrival → State → State
-  taken worker arrival s = taken_by worker arrival s (slice_get s.besides worker) (slice_get s.world.workers worker)
+  abbrev pub turn_taken : ℕ → Arrival → State → State
+  turn_taken worker arrival s = turn_taken_by worker arrival s (slice_get s.besides worker) (slice_get s.world.workers worker)
 
-  abbrev pub all_taken : ℕ → List Arrival → State → State
-  all_taken worker [] s = s
-  all_taken worker (arrival ∷ arrivals) s = all_taken worker arrivals (taken worker arrival s)
+  abbrev pub turns_taken : ℕ → List Arrival → State → State
+  turns_taken worker [] s = s
+  turns_taken worker (arrival ∷ arrivals) s = turns_taken worker arrivals (turn_taken worker arrival s)
 
   -- ---- where a connection is
 
@@ -336,12 +336,12 @@ module _ (profile : Profile) where
       elim (is_read_by conn beside) as (λ here. Option ℕ) [ true ↦ Some number | false ↦ worker_from (number + 1) conn besides ]
 
   -- the worker that has it, none where it isn't open or is in the lobby
-  abbrev pub worker_of : ℕ → State → Option ℕ
-  worker_of conn s = worker_from 0 conn s.besides
+  abbrev pub worker_reading : ℕ → State → Option ℕ
+  worker_reading conn s = worker_from 0 conn s.besides
 
   abbrev pub to_worker : Option ℕ → Arrival → State → State
   to_worker None arrival s = s
-  to_worker (Some worker) arrival s = taken worker arrival s
+  to_worker (Some worker) arrival s = turn_taken worker arrival s
 
   abbrev pub without_lobbied : ℕ → List Lobbied → List Lobbied
   without_lobbied conn ls = filter (λ (l : Lobbied). not (l.connection == conn)) ls
@@ -375,35 +375,35 @@ module _ (profile : Profile) where
 
   abbrev pub lobby_left : Lobbied → Option ℕ → State → State
   lobby_left l None s = record s { lobby = l ∷ without_lobbied l.connection s.lobby }
-  lobby_left l (Some worker) s = all_taken worker (arrivals_of l) (record s { lobby = without_lobbied l.connection s.lobby })
+  lobby_left l (Some worker) s = turns_taken worker (arrivals_of l) (record s { lobby = without_lobbied l.connection s.lobby })
 
   abbrev pub lobby_sent : Lobbied → State → State
   lobby_sent l s = lobby_left l (worker_for s.world.config l) s
 
   -- ---- lines
 
-  abbrev pub sent_by : ℕ → List ℕ → Option Lobbied → State → State
-  sent_by conn bytes None s = to_worker (worker_of conn s) (Bytes conn bytes) s
-  sent_by conn bytes (Some l) s = lobby_sent (record l { pieces = l.pieces ++ bytes ∷ [] }) s
+  abbrev pub bytes_sent_by : ℕ → List ℕ → Option Lobbied → State → State
+  bytes_sent_by conn bytes None s = to_worker (worker_reading conn s) (Bytes conn bytes) s
+  bytes_sent_by conn bytes (Some l) s = lobby_sent (record l { pieces = l.pieces ++ bytes ∷ [] }) s
 
-  abbrev pub sent : ℕ → List ℕ → State → State
-  sent conn bytes s = sent_by conn bytes (lobbied_at conn s.lobby) s
+  abbrev pub bytes_sent : ℕ → List ℕ → State → State
+  bytes_sent conn bytes s = bytes_sent_by conn bytes (lobbied_at conn s.lobby) s
 
-  abbrev pub closed : ℕ → State → State
-  closed conn s = to_worker (worker_of conn s) (ClosedByClient conn) (record s { lobby = without_lobbied conn s.lobby })
+  abbrev pub connection_closed : ℕ → State → State
+  connection_closed conn s = to_worker (worker_reading conn s) (ClosedByClient conn) (record s { lobby = without_lobbied conn s.lobby })
 
-  abbrev pub entered : ℕ → State → State
-  entered conn s = record s { lobby = record { connection = conn; pieces = [] } ∷ s.lobby; owing = without_owing conn s.owing }
+  abbrev pub lobby_entered : ℕ → State → State
+  lobby_entered conn s = record s { lobby = record { connection = conn; pieces = [] } ∷ s.lobby; owing = without_owing conn s.owing }
 
   abbrev pub acked_with : ℕ → List (List ℕ) → State → State
   acked_with conn [] s = s
   acked_with conn (a ∷ answers) s =
-      sent conn (joined (take most_answers (a ∷ answers)))
+      bytes_sent conn (joined (take most_answers (a ∷ answers)))
       (record s { owing = with_owing conn (drop most_answers (a ∷ answers)) (without_owing conn s.owing) })
 
-  abbrev pub ticked : List ℕ → State → State
-  ticked [] s = s
-  ticked (worker ∷ workers) s = ticked workers (taken worker Turn.Tick s)
+  abbrev pub workers_ticked : List ℕ → State → State
+  workers_ticked [] s = s
+  workers_ticked (worker ∷ workers) s = workers_ticked workers (turn_taken worker Turn.Tick s)
 
   abbrev pub worker_numbers : State → List ℕ
   worker_numbers s = map (λ (w : Worker). w.number) s.world.workers
@@ -423,14 +423,14 @@ module _ (profile : Profile) where
         lobby = [];
         chances = c.chances;
         owing = [];
-        printed = ended (codes "crashed") ∷ s.printed;
+        printed = ended_line (codes "after_crash") ∷ s.printed;
       }
 
   abbrev pub crashed_after : State → Crashing → State
   crashed_after s c = crashed_with s c.choices (choose_workers s.world.workers (record { choices = []; chances = c.chances }))
 
-  abbrev pub crashed : State → State
-  crashed s = crashed_after s (choose_shards s.world.shards (record { choices = []; chances = s.chances }))
+  abbrev pub after_crash : State → State
+  after_crash s = crashed_after s (choose_shards s.world.shards (record { choices = []; chances = s.chances }))
 
   -- ---- what `look` prints
 
@@ -447,14 +447,14 @@ module _ (profile : Profile) where
   abbrev pub after_line : State → Line → State
   after_line s Lines.Idle = s
   after_line s (Lines.Set config) = s
-  after_line s (Lines.Open conn) = entered conn (closed conn s)
-  after_line s (Lines.Send conn bytes) = sent conn bytes s
+  after_line s (Lines.Open conn) = lobby_entered conn (connection_closed conn s)
+  after_line s (Lines.Send conn bytes) = bytes_sent conn bytes s
   after_line s (Lines.Ack conn) = acked_with conn (owing_at conn s.owing) s
-  after_line s (Lines.Pump conn) = to_worker (worker_of conn s) (Turn.Pump conn) s
-  after_line s (Lines.Close conn) = closed conn s
-  after_line s (Lines.Tick ms) = ticked (worker_numbers s) (moved_on ms s)
-  after_line s (Lines.Fail disk call) = record s { chances = armed s.world.config disk s.chances }
-  after_line s (Lines.Crash image) = crashed s
+  after_line s (Lines.Pump conn) = to_worker (worker_reading conn s) (Turn.Pump conn) s
+  after_line s (Lines.Close conn) = connection_closed conn s
+  after_line s (Lines.Tick ms) = workers_ticked (worker_numbers s) (moved_on ms s)
+  after_line s (Lines.Fail disk call) = record s { chances = with_armed s.world.config disk s.chances }
+  after_line s (Lines.Crash image) = after_crash s
   after_line s Lines.Look = record s { printed = look_text s ∷ s.printed }
 
   abbrev pub after_lines : State → List Line → State
@@ -473,7 +473,7 @@ module _ (profile : Profile) where
   -- none where it is run
   abbrev pub refusal_of_script : List ℕ → Option (List ℕ)
   refusal_of_script bytes =
-      if nat_lt script_limit (length bytes) then Some (ended (codes "script too long")) else refusal_under (script_of bytes).bad
+      if nat_lt script_limit (length bytes) then Some (ended_line (codes "script too long")) else refusal_under (script_of bytes).bad
 
   abbrev pub text_unless : Option (List ℕ) → Script → List Choice → List ℕ
   text_unless (Some text) script choices = text

@@ -15,21 +15,21 @@ use Rattle.session_model.specs.FitsSession.{live_count}
 use Rattle.mqtt_packet.specs.Spelling.{written}
 use Rattle.turn_model.specs.Worker.{Out, Sent, Closed}
 
-abbrev pub ended : List ℕ → List ℕ
-ended text = text ++ 0x0A ∷ []
+abbrev pub ended_line : List ℕ → List ℕ
+ended_line text = text ++ 0x0A ∷ []
 
 -- a line for each packet, and for each close by the server
 abbrev pub text_of_out : Out → List ℕ
-text_of_out (Sent conn packet) = ended (decimal conn ++ (codes "< " ++ encode_upper (written packet)))
-text_of_out (Closed conn) = ended (decimal conn ++ codes " closed")
+text_of_out (Sent conn packet) = ended_line (decimal conn ++ (codes "< " ++ encode_upper (written packet)))
+text_of_out (Closed conn) = ended_line (decimal conn ++ codes " closed")
 
 abbrev pub text_of_outs : List Out → List ℕ
 text_of_outs outs = flat_map text_of_out outs
 
 -- ---- looking at what is there
 
-abbrev pub with_number : List ℕ → ℕ → List ℕ
-with_number words n = words ++ decimal n
+abbrev pub words_and_number : List ℕ → ℕ → List ℕ
+words_and_number words n = words ++ decimal n
 
 abbrev pub level_text : Level → List ℕ
 level_text (Token t) = t
@@ -44,30 +44,30 @@ count_in stream ss = length (filter (λ (s : StreamMessage). s.stream == stream)
 
 abbrev pub stream_text : ℕ → Path → List StreamMessage → List ℕ
 stream_text stream path ss =
-    ended (with_number (codes "  stream ") stream ++ (codes " " ++ (pattern_text path ++ with_number (codes " count ") (count_in stream ss))))
+    ended_line (words_and_number (codes "  stream ") stream ++ (codes " " ++ (pattern_text path ++ words_and_number (codes " count ") (count_in stream ss))))
 
 abbrev pub streams_text : ℕ → List Path → List StreamMessage → List ℕ
 streams_text stream [] ss = []
 streams_text stream (path ∷ paths) ss = stream_text stream path ss ++ streams_text (stream + 1) paths ss
 
-abbrev pub messages_of : List StreamMessage → List StoredMessage
-messages_of ss = map (λ (s : StreamMessage). s.message) ss
+abbrev pub messages_in : List StreamMessage → List StoredMessage
+messages_in ss = map (λ (s : StreamMessage). s.message) ss
 
 abbrev pub generation_line : HeldGeneration → List Path → List ℕ
 generation_line g paths =
-    ended (with_number (codes " generation ") g.cut.number
-    ++ (with_number (codes " first ") g.cut.first ++ (with_number (codes " next ") g.end ++ with_number (codes " streams ") (length paths))))
+    ended_line (words_and_number (codes " generation ") g.cut.number
+    ++ (words_and_number (codes " first ") g.cut.first ++ (words_and_number (codes " next ") g.end ++ words_and_number (codes " streams ") (length paths))))
 
 abbrev pub generation_with : HeldGeneration → List Path → List ℕ
 generation_with g paths = generation_line g paths ++ streams_text 0 paths g.messages
 
 abbrev pub generation_text : Profile → HeldGeneration → List ℕ
-generation_text profile g = generation_with g (patterns_in profile g.cut (messages_of g.messages))
+generation_text profile g = generation_with g (patterns_in profile g.cut (messages_in g.messages))
 
 abbrev pub shard_line : ℕ → ShardList → List ℕ
 shard_line shard list =
-    ended (with_number (codes "shard ") shard
-    ++ (with_number (codes " floor ") (floor_of list) ++ (with_number (codes " next ") (next_of list) ++ with_number (codes " awaiting ") (length list.awaited))))
+    ended_line (words_and_number (codes "shard ") shard
+    ++ (words_and_number (codes " floor ") (floor_of list) ++ (words_and_number (codes " next ") (next_of list) ++ words_and_number (codes " awaiting ") (length list.awaited))))
 
 -- the lines of a shard: its generations with their patterns, and how many messages each stream has
 abbrev pub shard_text : Profile → ℕ → ShardList → List ℕ
@@ -75,8 +75,8 @@ shard_text profile shard list = shard_line shard list ++ flat_map (generation_te
 
 abbrev pub session_text : PlainSession → List ℕ
 session_text m =
-    ended (codes " session " ++ (m.client ++ (with_number (codes " subs ") (live_count m) ++ with_number (codes " unfinished ") (length (unfinished m)))))
+    ended_line (codes " session " ++ (m.client ++ (words_and_number (codes " subs ") (live_count m) ++ words_and_number (codes " unfinished ") (length (unfinished m)))))
 
 -- the lines of a worker: its sessions in the order in which they began
 abbrev pub worker_text : ℕ → Sessions → List ℕ
-worker_text number sessions = ended (with_number (codes "worker ") number) ++ flat_map session_text sessions.list
+worker_text number sessions = ended_line (words_and_number (codes "worker ") number) ++ flat_map session_text sessions.list

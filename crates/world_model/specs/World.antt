@@ -15,13 +15,13 @@ use Rattle.turn_model.specs.PlainConnection.{PlainConnection}
 use Rattle.turn_model.specs.Step.{Setting, Ask}
 use Rattle.turn_model.specs.PublishStep.{are_group, publish_group, release_group, is_awaited, stored_messages}
 use Rattle.turn_model.specs.Worker.{Worker, Out, opening_worker, setting_of, connection_in, session_in}
-use Rattle.turn_model.specs.WorkerMoves.{WorkerMove, Asked, Cause, Emitted, Ending, worker_step, worker_outs, worker_acks, crashed_worker}
+use Rattle.turn_model.specs.WorkerMoves.{WorkerMove, Asker, Cause, Emitted, Ending, worker_step, worker_outs, worker_acks, crashed_worker}
 use Rattle.turn_model.specs.WorkerMoves as Workers
 
 -- a shard, and whose packets the group is of that pends
 pub record WorldShard : Type 0 where
   pub shard : Shard
-  pub asked : Option Asked
+  pub asked : Option Asker
 
 -- The configuration, which no move changes; the shards and the workers, by number; and each message whose PUBACK, or PUBREC of success,
 -- was put out, with its shard.
@@ -99,26 +99,26 @@ abbrev pub ask_with : Setting → List PlainPacket → Option PlainConnection �
 ask_with s packets (Some k) (Some m) = packets_ask s k m packets
 ask_with s packets k m = None
 
-abbrev pub asked_with : ℕ → ℕ → List PlainPacket → Option PlainSession → Option Asked
-asked_with worker conn packets None = None
-asked_with worker conn packets (Some m) =
+abbrev pub asker_with : ℕ → ℕ → List PlainPacket → Option PlainSession → Option Asker
+asker_with worker conn packets None = None
+asker_with worker conn packets (Some m) =
     Some (record { worker = worker; connection = conn; client = m.client; incarnation = m.incarnation; packets = packets })
 
 module _ (profile : Profile) (config : Config) where
   -- ---- moves of a shard
 
-  abbrev pub moved : ShardMove → WorldShard → WorldShard
-  moved move s = record s { shard = shard_step profile config s.shard move }
+  abbrev pub shard_moved : ShardMove → WorldShard → WorldShard
+  shard_moved move s = record s { shard = shard_step profile config s.shard move }
 
   -- what pends is the group that these asked for, where it was begun
-  abbrev pub begun : Asked → Shard → Shard → WorldShard → WorldShard
-  begun asked before after s = record { shard = after; asked = if pends_nothing before.pending && if_group after.pending then Some asked else s.asked }
+  abbrev pub group_begun : Asker → Shard → Shard → WorldShard → WorldShard
+  group_begun asked before after s = record { shard = after; asked = if pends_nothing before.pending && if_group after.pending then Some asked else s.asked }
 
-  abbrev pub begin_group : Asked → List Op → ℕ → WorldShard → WorldShard
-  begin_group asked ops now s = begun asked s.shard (shard_step profile config s.shard (Shards.Begin ops now)) s
+  abbrev pub begin_group : Asker → List Op → ℕ → WorldShard → WorldShard
+  begin_group asked ops now s = group_begun asked s.shard (shard_step profile config s.shard (Shards.Begin ops now)) s
 
   -- of this shard, and no other
-  abbrev pub begin_at : ℕ → ℕ → Option Ask → Option Asked → List WorldShard → List WorldShard
+  abbrev pub begin_at : ℕ → ℕ → Option Ask → Option Asker → List WorldShard → List WorldShard
   begin_at shard now (Some ask) (Some asked) ss = if ask.shard == shard then at_place shard (begin_group asked ask.ops now) ss else ss
   begin_at shard now ask asked ss = ss
 
@@ -127,7 +127,7 @@ module _ (profile : Profile) (config : Config) where
   begin_by shard conn packets now (Some w) ss =
       begin_at shard now
       (ask_with (setting_of profile config now w) packets (connection_in w conn) (session_in w conn))
-      (asked_with w.number conn packets (session_in w conn)) ss
+      (asker_with w.number conn packets (session_in w conn)) ss
 
   -- ---- a stored group
 
@@ -136,7 +136,7 @@ module _ (profile : Profile) (config : Config) where
   messages_in list (AGroup ops now) = stored_messages list ops now
   messages_in list other = []
 
-  abbrev pub handed_to : ℕ → Option Asked → List (Option StoredMessage) → List Worker → List Worker
+  abbrev pub handed_to : ℕ → Option Asker → List (Option StoredMessage) → List Worker → List Worker
   handed_to shard None messages ws = ws
   handed_to shard (Some a) messages ws = at_place a.worker (λ w. worker_step profile config w (Workers.Stored shard a messages)) ws
 
@@ -181,7 +181,7 @@ shown_lists ss = map (λ (s : WorldShard). s.shard.shown) ss
 
 module _ (profile : Profile) where
   abbrev pub on_shard : ℕ → ShardMove → World → World
-  on_shard shard move w = record w { shards = at_place shard (moved profile w.config move) w.shards }
+  on_shard shard move w = record w { shards = at_place shard (shard_moved profile w.config move) w.shards }
 
   abbrev pub on_worker : ℕ → WorkerMove → World → World
   on_worker worker move w =
@@ -193,7 +193,7 @@ module _ (profile : Profile) where
   abbrev pub stored_at : ℕ → World → World
   stored_at shard w =
       record w {
-        shards = at_place shard (moved profile w.config Shards.Store) w.shards;
+        shards = at_place shard (shard_moved profile w.config Shards.Store) w.shards;
         workers = handed_by profile w.config shard (slice_get w.shards shard) w.workers;
       }
 

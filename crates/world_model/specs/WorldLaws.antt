@@ -26,7 +26,7 @@ use Rattle.mqtt_packet.specs.Packet.{PlainPacket}
 use Rattle.turn_model.specs.PlainConnection.{PlainConnection, rest_of, is_bound_to}
 use Rattle.turn_model.specs.MayIssue.{same_entry}
 use Rattle.turn_model.specs.Resend.{Again, Releases, Publishes, Passes, again}
-use Rattle.turn_model.specs.Worker.{Worker, Pending, Noted, SentAgain, Delivered, Note, sessions_of}
+use Rattle.turn_model.specs.Worker.{Worker, PendingRecord, Noted, SentAgain, Delivered, Note, sessions_of}
 use Rattle.turn_model.specs.Worker as Worker
 use Rattle.world_model.specs.World.{World, WorldShard, Move, opening_world, after_moves, world_step}
 
@@ -35,7 +35,7 @@ abbrev pub reached : Profile → Config → List Move → World
 reached profile config moves = after_moves profile (opening_world config) moves
 
 -- the sessions of a worker as they stand with the owed changes, and as they would stand with the record that pends
-abbrev pub and_pending : Worker → Option Pending → List Sessions
+abbrev pub and_pending : Worker → Option PendingRecord → List Sessions
 and_pending k None = []
 and_pending k (Some p) = act_all k.committed (p.owed ++ p.changes) ∷ []
 
@@ -226,7 +226,7 @@ SweepsAreInOrder profile config =
 abbrev pub ChangesFit : Profile → Config → Type 0
 ChangesFit profile config =
     (moves : List Move) (worker : ℕ) (w : Worker) → slice_get (reached profile config moves).workers worker ≡ Some w →
-    (changes_fit profile w.committed w.owed ≡ true) × ((p : Pending) → w.pending ≡ Some p → changes_fit profile w.committed (p.owed ++ p.changes) ≡ true)
+    (changes_fit profile w.committed w.owed ≡ true) × ((p : PendingRecord) → w.pending ≡ Some p → changes_fit profile w.committed (p.owed ++ p.changes) ≡ true)
 
 -- all of them together
 pub record HoldAlways (profile : Profile) (config : Config) : Type 0 where

@@ -28,7 +28,7 @@ use Rattle.session_state.specs.KeptActing.{kept_acted}
 use Rattle.session_state.specs.KeptFits.{kept_suits, kept_finds, kept_fits, kept_are_within, is_issuing, goes_on}
 use Rattle.session_refinement.specs.StandFor.{Keeps, SessionsKeep, Group, kept_sub, kept_sweeps}
 use Rattle.session_refinement.specs.PlainChange.{plain_change}
-use Rattle.session_refinement.specs.Issuing.{IsBatch, IsNumbered, IsReadyFor}
+use Rattle.session_refinement.specs.Issuing.{IsKeptBatch, IsNumbered, IsReadyFor}
 use Rattle.session_refinement.specs.laws.SessionLaws.{AreAlike, found_alike, acted_keeps, are_within_agree}
 use Rattle.session_refinement.specs.laws.KeepLaws.{keeps_subscription}
 use Rattle.session_refinement.specs.laws.OneSubLaws.{live_found}
@@ -61,7 +61,7 @@ find_kept n (t ∷ ss) s is = by (t.number == n) is (find_kept n ss s)
     by false is rest = rest is
 
 pub batch_suits : (k : KeptSession) (m : PlainSession) (groups : List Group) (i : Issuing) (entries : List Entry) → Keeps k m groups → InOrder k.tracks → m.window ≤ WIDEST_WINDOW →
-    suits m (session.Issued (plain_issues i entries)) ≡ true → IsBatch m i.subscription i.batch entries → IsNumbered m i.batch → kept_suits k (Issued i) ≡ true
+    suits m (session.Issued (plain_issues i entries)) ≡ true → IsKeptBatch m i.subscription i.batch entries → IsNumbered m i.batch → kept_suits k (Issued i) ≡ true
 batch_suits k m groups i entries h order narrow fit is numbered =
     and_from (is_issuing i.batch (sub_numbered i.subscription k)) (nat_lt i.batch.from i.batch.to && goes_on k.tracks i.batch)
     (ap (is_issuing i.batch) found
@@ -120,7 +120,7 @@ batch_fits profile kept plain entries client i h ready is =
     ∙ parts.1)
   where
     issued : (m : PlainSession) → session_model.session_of client plain ≡ Some m → (o : Option KeptSession) (p : Option PlainSession) → session_of client kept ≡ o → p ≡ Some m → AreAlike o p →
-        IsBatch m i.subscription i.batch entries
+        IsKeptBatch m i.subscription i.batch entries
     issued m has None None at same alike = absurd (none-some m same)
     issued m has None (Some n) at same alike = absurd alike
     issued m has (Some k) None at same alike = absurd (none-some m same)

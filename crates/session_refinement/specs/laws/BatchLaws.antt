@@ -18,7 +18,7 @@ use Rattle.seq_tracks.specs.StandFor.{TracksStandFor}
 use Rattle.seq_tracks.specs.AgreeLaws.{unfinished1_agrees, unfinished2_agrees}
 use Rattle.session_state.specs.declared.batch.Batch.{Batch}
 use Rattle.session_state.specs.KeptActing.{has_unfinished, kept_batches}
-use Rattle.session_refinement.specs.StandFor.{Group, IsGroup, AreGroups, is_entry_of, entries_of, batches_of}
+use Rattle.session_refinement.specs.StandFor.{Group, IsGroup, AreGroups, is_entry_from, entries_of, batches_of}
 use Rattle.session_refinement.specs.laws.ListLaws.{Each, each_left, each_right, each_mapped, filter_within}
 
 -- ---- numbers that were given
@@ -104,14 +104,14 @@ group_agrees t m n g h is given =
 
 -- ---- the batches that name a version
 
-pub entry_version : (subscription : ℕ) (b : Batch) (e : Entry) → is_entry_of subscription b e ≡ true → e.version ≡ b.version
+pub entry_version : (subscription : ℕ) (b : Batch) (e : Entry) → is_entry_from subscription b e ≡ true → e.version ≡ b.version
 entry_version subscription b e is =
     let parts = and_parts (e.subscription == subscription) ((e.version == b.version) && ((e.shard == b.shard) && (nat_le b.from e.offset && nat_lt e.offset b.to))) is in
     let later = and_parts (e.version == b.version) ((e.shard == b.shard) && (nat_le b.from e.offset && nat_lt e.offset b.to)) parts.1 in
     eqb-true e.version b.version later.0
 
 -- of a group with an unfinished entry, some unfinished entry has the batch's version
-one_named : (m : PlainSession) (subscription version : ℕ) (b : Batch) (es : List Entry) → list_all (is_entry_of subscription b) es ≡ true →
+one_named : (m : PlainSession) (subscription version : ℕ) (b : Batch) (es : List Entry) → list_all (is_entry_from subscription b) es ≡ true →
     list_any (λ (e : Entry). e.version == version) (filter (λ (e : Entry). not (is_finished m e)) es)
     ≡ ((b.version == version) && list_any (λ (e : Entry). not (is_finished m e)) es)
 one_named m subscription version b [] all = none (b.version == version)
@@ -121,8 +121,8 @@ one_named m subscription version b [] all = none (b.version == version)
     none false = refl
 one_named m subscription version b (e ∷ es) all = by (not (is_finished m e)) (one_named m subscription version b es parts.1)
   where
-    parts : (is_entry_of subscription b e ≡ true) × (list_all (is_entry_of subscription b) es ≡ true)
-    parts = and_parts (is_entry_of subscription b e) (list_all (is_entry_of subscription b) es) all
+    parts : (is_entry_from subscription b e ≡ true) × (list_all (is_entry_from subscription b) es ≡ true)
+    parts = and_parts (is_entry_from subscription b e) (list_all (is_entry_from subscription b) es) all
 
     same : (e.version == version) ≡ (b.version == version)
     same = ap (λ v. v == version) (entry_version subscription b e parts.0)

@@ -20,12 +20,12 @@ use Rattle.session_state.specs.declared.batch.Batch.{Batch}
 use Rattle.session_state.specs.KeptSession.{KeptSession}
 use Rattle.turn_model.specs.Pump.{Pair}
 use Rattle.turn_model.specs.MayIssue.{is_issue_of}
-use Rattle.session_refinement.specs.StandFor.{Group, AreGroups, is_entry_of, entries_of, AllEndWithin, AreReadAgain, IsServed, IsCounted, IsWithin, StandsFor, was_issued_to, positions_of, generations_of}
+use Rattle.session_refinement.specs.StandFor.{Group, AreGroups, is_entry_from, entries_of, AllEndWithin, AreReadAgain, IsServed, IsCounted, IsWithin, StandsFor, was_issued_to, positions_of, generations_of}
 use Rattle.session_refinement.specs.Issuing.{HaveGrown}
 
 -- ---- nothing new was issued
 
-entry_below : (number : ℕ) (b : Batch) (e : Entry) → is_entry_of number b e ≡ true → (e.shard ≡ b.shard) × (e.offset < b.to)
+entry_below : (number : ℕ) (b : Batch) (e : Entry) → is_entry_from number b e ≡ true → (e.shard ≡ b.shard) × (e.offset < b.to)
 entry_below number b e is =
     let one = and_parts (e.subscription == number) ((e.version == b.version) && ((e.shard == b.shard) && (nat_le b.from e.offset && nat_lt e.offset b.to))) is in
     let two = and_parts (e.version == b.version) ((e.shard == b.shard) && (nat_le b.from e.offset && nat_lt e.offset b.to)) one.1 in
@@ -33,14 +33,14 @@ entry_below number b e is =
     let four = and_parts (nat_le b.from e.offset) (nat_lt e.offset b.to) three.1 in
     (eqb-true e.shard b.shard three.0, ltb-true e.offset b.to four.1)
 
-none_in : (number n shard offset : ℕ) (b : Batch) (es : List Entry) → list_all (is_entry_of number b) es ≡ true → (shard ≡ b.shard → b.to ≤ offset) → list_any (is_issue_of n shard offset) es ≡ false
+none_in : (number n shard offset : ℕ) (b : Batch) (es : List Entry) → list_all (is_entry_from number b) es ≡ true → (shard ≡ b.shard → b.to ≤ offset) → list_any (is_issue_of n shard offset) es ≡ false
 none_in number n shard offset b [] all past = refl
 none_in number n shard offset b (e ∷ es) all past =
     or_from ((e.subscription == n) && ((e.shard == shard) && (e.offset == offset))) (list_any (is_issue_of n shard offset) es) (by (cases_eq e.shard shard) (cases_eq e.offset offset))
     (none_in number n shard offset b es parts.1 past)
   where
-    parts : (is_entry_of number b e ≡ true) × (list_all (is_entry_of number b) es ≡ true)
-    parts = and_parts (is_entry_of number b e) (list_all (is_entry_of number b) es) all
+    parts : (is_entry_from number b e ≡ true) × (list_all (is_entry_from number b) es ≡ true)
+    parts = and_parts (is_entry_from number b e) (list_all (is_entry_from number b) es) all
 
     of : (e.shard ≡ b.shard) × (e.offset < b.to)
     of = entry_below number b e parts.0

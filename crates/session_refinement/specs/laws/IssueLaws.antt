@@ -25,8 +25,8 @@ use Rattle.session_state.specs.declared.change.Issued.{Issued as Issuing}
 use Rattle.session_state.specs.KeptSub.{KeptSub}
 use Rattle.session_state.specs.KeptSession.{KeptSession}
 use Rattle.session_state.specs.KeptActing.{on_sub, issued_kept}
-use Rattle.session_refinement.specs.StandFor.{Keeps, Group, is_entry_of, kept_sub, kept_sweeps}
-use Rattle.session_refinement.specs.Issuing.{IsBatch}
+use Rattle.session_refinement.specs.StandFor.{Keeps, Group, is_entry_from, kept_sub, kept_sweeps}
+use Rattle.session_refinement.specs.Issuing.{IsKeptBatch}
 use Rattle.session_refinement.specs.laws.ListLaws.{Each, each_of}
 use Rattle.session_refinement.specs.laws.BatchLaws.{entry_version}
 use Rattle.session_refinement.specs.laws.KeepLaws.{keeps_version, keeps_subscription}
@@ -59,18 +59,18 @@ any_found p q (y ∷ xs) x is passes = by (p y) is (any_found p q xs x)
     by false is rest = or_right (q y) (list_any q xs) (rest is passes)
 
 -- entries of one version have no other
-of_version : (number version : ℕ) (b : Batch) (es : List Entry) → list_all (is_entry_of number b) es ≡ true → list_any (λ (e : Entry). e.version == version) es ≡ true → b.version ≡ version
+of_version : (number version : ℕ) (b : Batch) (es : List Entry) → list_all (is_entry_from number b) es ≡ true → list_any (λ (e : Entry). e.version == version) es ≡ true → b.version ≡ version
 of_version number version b [] all found = absurd (true≢false (sym found))
 of_version number version b (e ∷ es) all found = by (or_cases (e.version == version) (list_any (λ (e : Entry). e.version == version) es) found) (of_version number version b es parts.1)
   where
-    parts : (is_entry_of number b e ≡ true) × (list_all (is_entry_of number b) es ≡ true)
-    parts = and_parts (is_entry_of number b e) (list_all (is_entry_of number b) es) all
+    parts : (is_entry_from number b e ≡ true) × (list_all (is_entry_from number b) es ≡ true)
+    parts = and_parts (is_entry_from number b e) (list_all (is_entry_from number b) es) all
 
     by : ((e.version == version) ≡ true) ⊎ (list_any (λ (e : Entry). e.version == version) es ≡ true) → (list_any (λ (e : Entry). e.version == version) es ≡ true → b.version ≡ version) → b.version ≡ version
     by (inl here) rest = sym (entry_version number b e parts.0) ∙ eqb-true e.version version here
     by (inr there) rest = rest there
 
-issued_versions : (m : PlainSession) (i : Issuing) (entries : List Entry) → IsBatch m i.subscription i.batch entries → is_live m i.subscription ≡ true → (v : Version) →
+issued_versions : (m : PlainSession) (i : Issuing) (entries : List Entry) → IsKeptBatch m i.subscription i.batch entries → is_live m i.subscription ≡ true → (v : Version) →
     keeps_version (issued_session (plain_issues i entries) m) v ≡ true → keeps_version m v ≡ true
 issued_versions m i entries is live v =
     version_goes m (issued_session (plain_issues i entries) m) entries v refl (stays_same m (issued_session (plain_issues i entries) m) (omega arith) (λ n done. done))
@@ -86,7 +86,7 @@ issued_versions m i entries is live v =
         ap (λ (s : Subscription). s.live) (same_Some is.subscription found.0 (sym is.has_subscription ∙ found.1)) ∙ found.2
 
 pub issued_change : (k : KeptSession) (m : PlainSession) (groups : List Group) (i : Issuing) (entries : List Entry) → Keeps k m groups → suits m (session.Issued (plain_issues i entries)) ≡ true →
-    IsBatch m i.subscription i.batch entries → IsChange k (issued_kept i k) m (issued_session (plain_issues i entries) m) (record { batch = i.batch; entries = entries } ∷ [])
+    IsKeptBatch m i.subscription i.batch entries → IsChange k (issued_kept i k) m (issued_session (plain_issues i entries) m) (record { batch = i.batch; entries = entries } ∷ [])
 issued_change k m groups i entries h fit is =
     record {
       changed = changed_at i.subscription (moved i);
@@ -125,7 +125,7 @@ issued_change k m groups i entries h fit is =
               ∙ find_changed (λ (s : Subscription). s.number == is.version.subscription) (changed_at i.subscription (moved i))
               (λ s. ap (λ n. n == is.version.subscription) (changed_leaves (λ (s : Subscription). s.number) i.subscription (moved i) (λ s. refl) s))
               m.subscriptions is.subscription (ap (λ n. subscription_numbered n m) is.same_subscription ∙ is.has_subscription);
-          entries = ap (λ n. list_all (is_entry_of n i.batch) entries) is.same_subscription ∙ is.entries_are;
+          entries = ap (λ n. list_all (is_entry_from n i.batch) entries) is.same_subscription ∙ is.entries_are;
           track1 = is.track1;
           track2 = is.track2;
         },

@@ -22,7 +22,7 @@ use Rattle.session_state.specs.KeptSession.{KeptSession, KeptSessions, session_o
 use Rattle.session_state.specs.KeptActing.{on_session, without_session, kept_changed, acted_on, kept_acted}
 use Rattle.session_state.specs.KeptFits.{kept_within, kept_are_within, kept_finds, kept_fits, is_wide, wide_count}
 use Rattle.session_refinement.specs.PlainChange.{plain_effect, plain_change}
-use Rattle.session_refinement.specs.StandFor.{Keeps, KeepsSome, Group, Pairwise, SessionsKeep, AreDistinct, clients_of}
+use Rattle.session_refinement.specs.StandFor.{Keeps, KeepsSome, Group, Pairwise, SessionsKeep, HaveOwnClients, clients_of}
 use Rattle.session_refinement.specs.Issuing.{IsIssuedAs, is_no_batch, new_groups}
 use Rattle.session_refinement.specs.laws.ListLaws.{filter_mapped, any_of_filtered}
 use Rattle.session_refinement.specs.laws.KeepsLaws.{begun_keeps, changed_keeps, no_entries}
@@ -62,7 +62,7 @@ none_found client (m ∷ ms) is = by (bytes_eq m.client client) is (none_found c
     by true is rest = absurd (none-some m (sym is))
     by false is rest = rest is
 
-pub distinct_pushed : (cs : List (List ℕ)) (client : List ℕ) → list_any (λ (c : List ℕ). bytes_eq c client) cs ≡ false → AreDistinct cs → AreDistinct (cs ++ client ∷ [])
+pub distinct_pushed : (cs : List (List ℕ)) (client : List ℕ) → list_any (λ (c : List ℕ). bytes_eq c client) cs ≡ false → HaveOwnClients cs → HaveOwnClients (cs ++ client ∷ [])
 distinct_pushed [] client new h = (refl, tt)
 distinct_pushed (c ∷ cs) client new h =
     let parts = or_parts (bytes_eq c client) (list_any (λ (c : List ℕ). bytes_eq c client) cs) new in (
@@ -71,11 +71,11 @@ distinct_pushed (c ∷ cs) client new h =
       distinct_pushed cs client parts.1 h.1,
     )
 
-pub distinct_filtered : (p : List ℕ → Bool) (cs : List (List ℕ)) → AreDistinct cs → AreDistinct (filter p cs)
+pub distinct_filtered : (p : List ℕ → Bool) (cs : List (List ℕ)) → HaveOwnClients cs → HaveOwnClients (filter p cs)
 distinct_filtered p [] h = tt
 distinct_filtered p (c ∷ cs) h = by (p c) (distinct_filtered p cs h.1)
   where
-    by : (b : Bool) → AreDistinct (filter p cs) → AreDistinct (if b then c ∷ filter p cs else filter p cs)
+    by : (b : Bool) → HaveOwnClients (filter p cs) → HaveOwnClients (if b then c ∷ filter p cs else filter p cs)
     by false rest = rest
     by true rest = (
       false_from_ne_true (list_any (λ (d : List ℕ). bytes_eq d c) (filter p cs))
@@ -109,7 +109,7 @@ module _ (R : KeptSession → PlainSession → Type 0) (same : (k : KeptSession)
       )
 
   pub on_one : (client : List ℕ) (f : KeptSession → KeptSession) (g : PlainSession → PlainSession) (ks : List KeptSession) (ms : List PlainSession) (m : PlainSession) → Pairwise R ks ms →
-      AreDistinct (clients_of ms) → find (λ (m : PlainSession). bytes_eq m.client client) ms ≡ Some m →
+      HaveOwnClients (clients_of ms) → find (λ (m : PlainSession). bytes_eq m.client client) ms ≡ Some m →
       ((k : KeptSession) → R k m → R (f k) (g m)) → Pairwise R (on_session client f ks) (acting.on_session client g ms)
   on_one client f g [] [] m h distinct is does = tt
   on_one client f g [] (n ∷ ms) m h distinct is does = absurd h
@@ -165,7 +165,7 @@ on_keeps kept plain client f g m h same is does =
     record {
       list = on_one KeepsSome keeps_same client f g kept.list plain.list m h.list h.distinct is does;
       next = h.next;
-      distinct = subst AreDistinct (sym (clients_on client g same plain.list)) h.distinct;
+      distinct = subst HaveOwnClients (sym (clients_on client g same plain.list)) h.distinct;
     }
 
 -- ---- a change
@@ -191,7 +191,7 @@ acted_keeps kept plain entries client (Began b) h found issued = by (session.ses
           list = pushed KeepsSome keeps_same kept.list plain.list (begun_kept client b.incarnation b.expiry b.window) (begun_session client b.incarnation b.expiry b.window) h.list ([], begun_keeps client b.incarnation b.expiry b.window);
           next = refl;
           distinct =
-              subst AreDistinct (sym (map-append (λ (m : PlainSession). m.client) plain.list (begun_session client b.incarnation b.expiry b.window ∷ [])))
+              subst HaveOwnClients (sym (map-append (λ (m : PlainSession). m.client) plain.list (begun_session client b.incarnation b.expiry b.window ∷ [])))
               (distinct_pushed (clients_of plain.list) client (none_found client plain.list is) h.distinct);
         }
 acted_keeps kept plain entries client Ended h found issued =
@@ -199,7 +199,7 @@ acted_keeps kept plain entries client Ended h found issued =
       list = without KeepsSome keeps_same client kept.list plain.list h.list;
       next = h.next;
       distinct =
-          subst AreDistinct (filter_mapped (λ (c : List ℕ). not (bytes_eq c client)) (λ (m : PlainSession). m.client) plain.list)
+          subst HaveOwnClients (filter_mapped (λ (c : List ℕ). not (bytes_eq c client)) (λ (m : PlainSession). m.client) plain.list)
           (distinct_filtered (λ (c : List ℕ). not (bytes_eq c client)) (clients_of plain.list) h.distinct);
     }
 acted_keeps kept plain entries client (Bound e) h found issued = held kept plain entries client (Bound e) h (session.session_of client plain) refl refl found issued

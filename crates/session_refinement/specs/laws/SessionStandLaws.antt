@@ -16,7 +16,7 @@ use Rattle.session_state.specs.declared.change.Effect.TheVariants.{Began, Ended,
 use Rattle.session_state.specs.KeptSession.{KeptSession, KeptSessions, begun_kept}
 use Rattle.session_state.specs.KeptActing.{on_session, kept_changed, acted_on}
 use Rattle.session_refinement.specs.PlainChange.{plain_effect}
-use Rattle.session_refinement.specs.StandFor.{KeepsSome, StandsFor, Pairwise, SessionsKeep, SessionsStandFor, AreDistinct, clients_of}
+use Rattle.session_refinement.specs.StandFor.{KeepsSome, StandsFor, Pairwise, SessionsKeep, SessionsStandFor, HaveOwnClients, clients_of}
 use Rattle.session_refinement.specs.Issuing.{AreLists, IsOver}
 use Rattle.session_refinement.specs.laws.ListLaws.{filter_mapped}
 use Rattle.session_refinement.specs.laws.SessionLaws.{none_found, distinct_pushed, distinct_filtered, clients_on, on_one, pushed, without}
@@ -64,7 +64,7 @@ module _ (profile : Profile) (lists : List ShardList) where
             on_one (StandsFor profile lists) same_client client (kept_changed effect) (changed_session (plain_effect entries effect)) kept.list plain.list m h.list h.distinct is
             (λ k stands. effect_stands profile lists k m entries effect are stands found (over m is));
         next = h.next;
-        distinct = subst AreDistinct (sym (clients_on client (changed_session (plain_effect entries effect)) (keeps_client (plain_effect entries effect)) plain.list)) h.distinct;
+        distinct = subst HaveOwnClients (sym (clients_on client (changed_session (plain_effect entries effect)) (keeps_client (plain_effect entries effect)) plain.list)) h.distinct;
       }
 
   pub acted_stands : (kept : KeptSessions) (plain : session.Sessions) (entries : List Entry) (client : List ℕ) (effect : Effect) → AreLists lists → SessionsStandFor profile lists kept plain →
@@ -82,7 +82,7 @@ module _ (profile : Profile) (lists : List ShardList) where
                 (begun_stands profile lists client b.incarnation b.expiry b.window);
             next = refl;
             distinct =
-                subst AreDistinct (sym (map-append (λ (m : PlainSession). m.client) plain.list (begun_session client b.incarnation b.expiry b.window ∷ [])))
+                subst HaveOwnClients (sym (map-append (λ (m : PlainSession). m.client) plain.list (begun_session client b.incarnation b.expiry b.window ∷ [])))
                 (distinct_pushed (clients_of plain.list) client (none_found client plain.list is) h.distinct);
           }
   acted_stands kept plain entries client Ended are h found over =
@@ -90,7 +90,7 @@ module _ (profile : Profile) (lists : List ShardList) where
         list = without (StandsFor profile lists) same_client client kept.list plain.list h.list;
         next = h.next;
         distinct =
-            subst AreDistinct (filter_mapped (λ (c : List ℕ). not (bytes_eq c client)) (λ (m : PlainSession). m.client) plain.list)
+            subst HaveOwnClients (filter_mapped (λ (c : List ℕ). not (bytes_eq c client)) (λ (m : PlainSession). m.client) plain.list)
             (distinct_filtered (λ (c : List ℕ). not (bytes_eq c client)) (clients_of plain.list) h.distinct);
       }
   acted_stands kept plain entries client (Bound e) are h found over = held kept plain entries client (Bound e) are h (session.session_of client plain) refl refl found over

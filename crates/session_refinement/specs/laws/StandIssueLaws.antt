@@ -23,8 +23,8 @@ use Rattle.session_state.specs.KeptSession.{KeptSession}
 use Rattle.session_state.specs.KeptActing.{tidied, issued_kept}
 use Rattle.turn_model.specs.Pump.{Pair}
 use Rattle.turn_model.specs.MayIssue.{is_issue_of}
-use Rattle.session_refinement.specs.StandFor.{EndsWithin, Group, IsGroup, is_entry_of, IsServed, IsCounted, IsWithin, StandsFor, sweep_positions, batch_positions, batch_generations}
-use Rattle.session_refinement.specs.Issuing.{IsBatch, IsBatchOver}
+use Rattle.session_refinement.specs.StandFor.{EndsWithin, Group, IsGroup, is_entry_from, IsServed, IsCounted, IsWithin, StandsFor, sweep_positions, batch_positions, batch_generations}
+use Rattle.session_refinement.specs.Issuing.{IsKeptBatch, IsBatchOver}
 use Rattle.session_refinement.specs.laws.ChangeLaws.{change_keeps}
 use Rattle.session_refinement.specs.laws.OneSubLaws.{changed_at, on_is_map}
 use Rattle.session_refinement.specs.laws.IssueLaws.{plain_issues, moved, issued_change}
@@ -47,7 +47,7 @@ set_elsewhere (y ∷ xs) (suc k) (suc j) v other = set_elsewhere xs k j v (λ sa
 
 -- ---- whose entries they are
 
-entry_parts : (number : ℕ) (b : Batch) (e : Entry) → is_entry_of number b e ≡ true → (e.subscription ≡ number) × (e.shard ≡ b.shard)
+entry_parts : (number : ℕ) (b : Batch) (e : Entry) → is_entry_from number b e ≡ true → (e.subscription ≡ number) × (e.shard ≡ b.shard)
 entry_parts number b e is =
     let one = and_parts (e.subscription == number) ((e.version == b.version) && ((e.shard == b.shard) && (nat_le b.from e.offset && nat_lt e.offset b.to))) is in
     let two = and_parts (e.version == b.version) ((e.shard == b.shard) && (nat_le b.from e.offset && nat_lt e.offset b.to)) one.1 in
@@ -55,26 +55,26 @@ entry_parts number b e is =
     (eqb-true e.subscription number one.0, eqb-true e.shard b.shard three.0)
 
 -- for their own pair they tell by their offsets
-issues_here : (number shard offset : ℕ) (b : Batch) (es : List Entry) → list_all (is_entry_of number b) es ≡ true → shard ≡ b.shard →
+issues_here : (number shard offset : ℕ) (b : Batch) (es : List Entry) → list_all (is_entry_from number b) es ≡ true → shard ≡ b.shard →
     list_any (is_issue_of number shard offset) es ≡ list_any (λ (e : Entry). e.offset == offset) es
 issues_here number shard offset b [] all here = refl
 issues_here number shard offset b (e ∷ es) all here =
-    let parts = and_parts (is_entry_of number b e) (list_all (is_entry_of number b) es) all in
+    let parts = and_parts (is_entry_from number b e) (list_all (is_entry_from number b) es) all in
     let of = entry_parts number b e parts.0 in
     ap (λ t. (t && ((e.shard == shard) && (e.offset == offset))) || list_any (is_issue_of number shard offset) es) (eq-eqb e.subscription number of.0)
     ∙ ap (λ t. (t && (e.offset == offset)) || list_any (is_issue_of number shard offset) es) (eq-eqb e.shard shard (of.1 ∙ sym here))
     ∙ ap (λ t. (e.offset == offset) || t) (issues_here number shard offset b es parts.1 here)
 
 -- and for another pair none is one
-issues_elsewhere : (number n shard offset : ℕ) (b : Batch) (es : List Entry) → list_all (is_entry_of number b) es ≡ true → (n ≡ number → shard ≡ b.shard → ⊥) →
+issues_elsewhere : (number n shard offset : ℕ) (b : Batch) (es : List Entry) → list_all (is_entry_from number b) es ≡ true → (n ≡ number → shard ≡ b.shard → ⊥) →
     list_any (is_issue_of n shard offset) es ≡ false
 issues_elsewhere number n shard offset b [] all apart = refl
 issues_elsewhere number n shard offset b (e ∷ es) all apart =
     or_from ((e.subscription == n) && ((e.shard == shard) && (e.offset == offset))) (list_any (is_issue_of n shard offset) es) (by (cases_eq e.subscription n) (cases_eq e.shard shard))
     (issues_elsewhere number n shard offset b es parts.1 apart)
   where
-    parts : (is_entry_of number b e ≡ true) × (list_all (is_entry_of number b) es ≡ true)
-    parts = and_parts (is_entry_of number b e) (list_all (is_entry_of number b) es) all
+    parts : (is_entry_from number b e ≡ true) × (list_all (is_entry_from number b) es ≡ true)
+    parts = and_parts (is_entry_from number b e) (list_all (is_entry_from number b) es) all
 
     of : (e.subscription ≡ number) × (e.shard ≡ b.shard)
     of = entry_parts number b e parts.0
@@ -216,14 +216,14 @@ issued_within profile lists k m i entries is shard list has h =
 
 -- ---- the batch
 
-group_of : (m : PlainSession) (i : Issuing) (entries : List Entry) → IsBatch m i.subscription i.batch entries → IsGroup m (record { batch = i.batch; entries = entries })
+group_of : (m : PlainSession) (i : Issuing) (entries : List Entry) → IsKeptBatch m i.subscription i.batch entries → IsGroup m (record { batch = i.batch; entries = entries })
 group_of m i entries is =
     record {
       version = is.version;
       subscription = is.subscription;
       has_version = is.has_version;
       has_subscription = ap (λ n. subscription_numbered n m) is.same_subscription ∙ is.has_subscription;
-      entries = ap (λ n. list_all (is_entry_of n i.batch) entries) is.same_subscription ∙ is.entries_are;
+      entries = ap (λ n. list_all (is_entry_from n i.batch) entries) is.same_subscription ∙ is.entries_are;
       track1 = is.track1;
       track2 = is.track2;
     }

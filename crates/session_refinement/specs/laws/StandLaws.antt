@@ -20,7 +20,7 @@ use Rattle.turn_model.specs.Pump.{Pair}
 use Rattle.session_refinement.specs.PlainChange.{plain_effect}
 use Rattle.session_refinement.specs.StandFor.{Group, AreGroups, IsReadAgain, AreReadAgain, AllEndWithin, IsServed, IsCounted, IsWithin, StandsFor, sweep_positions}
 use Rattle.session_refinement.specs.ReadAgain.{entries_again}
-use Rattle.session_refinement.specs.Issuing.{AreLists, StartsAt, is_no_batch, new_groups}
+use Rattle.session_refinement.specs.Issuing.{AreLists, BeginsInShard, is_no_batch, new_groups}
 use Rattle.session_refinement.specs.laws.ChangeLaws.{IsChange, version_found, subscription_found}
 use Rattle.session_refinement.specs.laws.EffectLaws.{Rests, rests_elsewhere, rests_done, rests_passed, rests_received, rests_acked_fit}
 use Rattle.session_refinement.specs.laws.OneSubLaws.{changed_at, on_is_map}
@@ -92,7 +92,7 @@ changed_counted profile lists m later number f leaves same issued counted p list
     counted_as_before profile lists m later p list was issued (counted (record p { subscription = was.before }) list was.served)
 
 effect_counted : (profile : Profile) (lists : List ShardList) (m : PlainSession) (entries : List Entry) (effect : Effect) → AreLists lists →
-    is_no_batch effect ≡ true → suits m (plain_effect entries effect) ≡ true → StartsAt lists effect → AreCounted profile lists m → AreCounted profile lists (changed_session (plain_effect entries effect) m)
+    is_no_batch effect ≡ true → suits m (plain_effect entries effect) ≡ true → BeginsInShard lists effect → AreCounted profile lists m → AreCounted profile lists (changed_session (plain_effect entries effect) m)
 effect_counted profile lists m entries (Began b) are single fit starts h = h
 effect_counted profile lists m entries Ended are single fit starts h = h
 effect_counted profile lists m entries (Bound expiry) are single fit starts h = rests_counted profile lists m (changed_session (session.Bound expiry) m) (rests_elsewhere m expiry None) h
@@ -117,14 +117,14 @@ effect_counted profile lists m entries (Passed p) are single fit starts h =
 
 -- ---- positions
 
-effect_within : (lists : List ShardList) (k : KeptSession) (effect : Effect) (shard : ℕ) (list : ShardList) → is_no_batch effect ≡ true → StartsAt lists effect → slice_get lists shard ≡ Some list →
+effect_within : (lists : List ShardList) (k : KeptSession) (effect : Effect) (shard : ℕ) (list : ShardList) → is_no_batch effect ≡ true → BeginsInShard lists effect → slice_get lists shard ≡ Some list →
     IsWithin k shard list → IsWithin (kept_changed effect k) shard list
 effect_within lists k effect shard list single starts has h = tidied_within (with_effect effect k) shard list (by effect single starts)
   where
     before : PartsWithin shard list k.subs k.batches
     before = within_parts k shard list h
 
-    by : (effect : Effect) → is_no_batch effect ≡ true → StartsAt lists effect → PartsWithin shard list (with_effect effect k).subs (with_effect effect k).batches
+    by : (effect : Effect) → is_no_batch effect ≡ true → BeginsInShard lists effect → PartsWithin shard list (with_effect effect k).subs (with_effect effect k).batches
     by (Began b) single starts = before
     by Ended single starts = before
     by (Bound expiry) single starts = before
@@ -159,7 +159,7 @@ no_groups (Done n) entries single = refl
 no_groups (Passed p) entries single = refl
 
 pub changed_stands : (profile : Profile) (lists : List ShardList) (k : KeptSession) (m : PlainSession) (entries : List Entry) (effect : Effect) →
-    AreLists lists → StandsFor profile lists k m → is_no_batch effect ≡ true → suits m (plain_effect entries effect) ≡ true → StartsAt lists effect →
+    AreLists lists → StandsFor profile lists k m → is_no_batch effect ≡ true → suits m (plain_effect entries effect) ≡ true → BeginsInShard lists effect →
     StandsFor profile lists (kept_changed effect k) (changed_session (plain_effect entries effect) m)
 changed_stands profile lists k m entries effect are h single fit starts =
     let later = changed_session (plain_effect entries effect) m in

@@ -7,24 +7,24 @@ use Rattle.mqtt_packet.specs.Packet.{ConnectFields}
 use Rattle.turn_model.specs.PlainConnection.{PlainConnection, connection_of}
 use Rattle.turn_model.specs.Resend.{Resent}
 use Rattle.turn_model.specs.Step.{Step}
-use Rattle.turn_model.specs.Worker.{Worker, Item, Answer, Answers, Accepts, Delivers, Pending, sessions_of, setting_of, connection_in, session_in}
-use Rattle.turn_model.specs.WorkerMoves.{WorkerMove, Asked, Ending, View, BeginCommit, Commit, Settle, Stored, Emit, OfItem, OfPacket, OfResend, Bind, TakeOver, Unbind, record_of, begun_unless, committed_by, settled_by, has_asked, stored_if, item_at, emitted_if, answered_step, step_emitted, resent_for, resend_emitted, accepts_on, bound_with, bound_answer, bound_if, may_take_over, taken_over_if, unbound, worker_step, worker_outs, worker_acks, emitted_outs, step_outs, resend_outs, takeover_outs, ending_outs, emitted_acks, step_acks}
+use Rattle.turn_model.specs.Worker.{Worker, Item, Answer, Answers, Accepts, Delivers, PendingRecord, sessions_of, setting_of, connection_in, session_in}
+use Rattle.turn_model.specs.WorkerMoves.{WorkerMove, Asker, Ending, View, BeginCommit, Commit, Settle, Stored, Emit, OfItem, OfPacket, OfResend, Bind, TakeOver, Unbind, record_of, begun_unless, record_committed, record_settled, has_asked, stored_if, item_at, emitted_if, answered_step, step_emitted, resent_for, resend_emitted, accepts_on, bound_with, bound_answer, bound_if, may_take_over, taken_over_if, unbound_from, worker_step, worker_outs, worker_acks, emitted_outs, step_outs, resend_outs, takeover_outs, ending_outs, emitted_acks, step_acks}
 use Rattle.turn_model.specs.Allowed.{may_bind_answer, may_bind, worker_allows}
 
-begun_same : (pending asked : Option Pending) (w : Worker) → (is_none pending && is_some asked) ≡ false → begun_unless pending asked w ≡ w
+begun_same : (pending asked : Option PendingRecord) (w : Worker) → (is_none pending && is_some asked) ≡ false → begun_unless pending asked w ≡ w
 begun_same (Some p) asked w never = refl
 begun_same None None w never = refl
 begun_same None (Some p) w never = cc
 
-committed_same : (pending : Option Pending) (w : Worker) → is_some pending ≡ false → committed_by pending w ≡ w
+committed_same : (pending : Option PendingRecord) (w : Worker) → is_some pending ≡ false → record_committed pending w ≡ w
 committed_same None w never = refl
 committed_same (Some p) w never = cc
 
-settled_same : (goes_in : Bool) (now : ℕ) (pending : Option Pending) (w : Worker) → is_some pending ≡ false → settled_by goes_in now pending w ≡ w
+settled_same : (goes_in : Bool) (now : ℕ) (pending : Option PendingRecord) (w : Worker) → is_some pending ≡ false → record_settled goes_in now pending w ≡ w
 settled_same goes_in now None w never = refl
 settled_same goes_in now (Some p) w never = cc
 
-stored_same : (b : Bool) (shard : ℕ) (a : Asked) (messages : List (Option StoredMessage)) (w : Worker) → b ≡ false → stored_if b shard a messages w ≡ w
+stored_same : (b : Bool) (shard : ℕ) (a : Asker) (messages : List (Option StoredMessage)) (w : Worker) → b ≡ false → stored_if b shard a messages w ≡ w
 stored_same true shard a messages w never = cc
 stored_same false shard a messages w never = refl
 
@@ -65,7 +65,7 @@ taken_over_same : (b : Bool) (conn : ℕ) (w : Worker) → b ≡ false → taken
 taken_over_same true conn w never = cc
 taken_over_same false conn w never = refl
 
-unbound_same : (conn : ℕ) (ending : Ending) (now : ℕ) (k : Option PlainConnection) (w : Worker) → is_some k ≡ false → unbound conn ending now k w ≡ w
+unbound_same : (conn : ℕ) (ending : Ending) (now : ℕ) (k : Option PlainConnection) (w : Worker) → is_some k ≡ false → unbound_from conn ending now k w ≡ w
 unbound_same conn ending now None w never = refl
 unbound_same conn ending now (Some k) w never = cc
 

@@ -6,7 +6,7 @@ use Rattle.topic_model.specs.Profile.{Profile}
 use Rattle.topic_model.specs.StoredMessage.{StoredMessage}
 use Rattle.session_model.specs.declared.entry.Kind.{Kind}
 use Rattle.turn_model.specs.Delivery.{Reader, kind_for, has_expired}
-use Rattle.turn_model.specs.Batch.{count1, count2, size_out, bytes_from, packets_from, is_alike, has_place, cut_within, cut_run}
+use Rattle.turn_model.specs.Batch.{count1, count2, size_out, bytes_from, packets_from, is_alike, has_byte_place, cut_within, cut_run}
 
 -- ---- alike
 
@@ -30,7 +30,7 @@ record IsShort (most used bytes packets : ℕ) : Type 0 where
 short_none : (most used : ℕ) → IsShort most used 0 0
 short_none most used = record { within = λ le. inl (omega arith); over = λ more. (refl, refl) }
 
-short_more : (most used size bytes packets : ℕ) → has_place most used size ≡ true → IsShort most (used + size) bytes packets → IsShort most used (size + bytes) ((if eqb size 0 then 0 else 1) + packets)
+short_more : (most used size bytes packets : ℕ) → has_byte_place most used size ≡ true → IsShort most (used + size) bytes packets → IsShort most used (size + bytes) ((if eqb size 0 then 0 else 1) + packets)
 short_more most used size bytes packets place rest =
     record {
       within = λ le. by_size (cases_lt most (used + size));
@@ -80,15 +80,15 @@ cut_is : (now : ℕ) (r : Reader) (most : ℕ) (expired : Bool) (used next1 next
 cut_is now r most expired used next1 next2 [] = record { front = (0, refl); alike = λ k w e. absurd (none-some w e); short = short_none most used }
 cut_is now r most expired used next1 next2 (m ∷ ms) =
     let kind = kind_for now r m next1 next2 in
-    by kind refl (is_alike (has_expired now m) expired && has_place most used (size_out r m kind)) refl
+    by kind refl (is_alike (has_expired now m) expired && has_byte_place most used (size_out r m kind)) refl
     (cut_within now r most expired (used + size_out r m kind) (next1 + count1 kind) (next2 + count2 kind) ms)
     (cut_is now r most expired (used + size_out r m kind) (next1 + count1 kind) (next2 + count2 kind) ms)
   where
-    by : (kind : Kind) → kind_for now r m next1 next2 ≡ kind → (b : Bool) → (is_alike (has_expired now m) expired && has_place most used (size_out r m kind)) ≡ b → (ws : List StoredMessage) →
+    by : (kind : Kind) → kind_for now r m next1 next2 ≡ kind → (b : Bool) → (is_alike (has_expired now m) expired && has_byte_place most used (size_out r m kind)) ≡ b → (ws : List StoredMessage) →
         IsCut now r most expired (used + size_out r m kind) (next1 + count1 kind) (next2 + count2 kind) ms ws → IsCut now r most expired used next1 next2 (m ∷ ms) (if b then m ∷ ws else [])
     by kind same false e ws rest = record { front = (0, refl); alike = λ k w e. absurd (none-some w e); short = short_none most used }
     by kind same true e ws rest =
-        let parts = and_parts (is_alike (has_expired now m) expired) (has_place most used (size_out r m kind)) e in
+        let parts = and_parts (is_alike (has_expired now m) expired) (has_byte_place most used (size_out r m kind)) e in
         record {
           front = (suc rest.front.0, ap (λ l. m ∷ l) rest.front.1);
           alike = λ k w f. each k w f (alike_same (has_expired now m) expired parts.0) rest.alike;
@@ -124,13 +124,13 @@ batch_is profile now r next1 next2 (m ∷ ms) some =
     }
   where
     -- the first message always has a place
-    first : (kind : Kind) → 0 < length (if is_alike (has_expired now m) (has_expired now m) && has_place profile.batch_bytes 0 (size_out r m kind)
+    first : (kind : Kind) → 0 < length (if is_alike (has_expired now m) (has_expired now m) && has_byte_place profile.batch_bytes 0 (size_out r m kind)
         then m ∷ cut_within now r profile.batch_bytes (has_expired now m) (0 + size_out r m kind) (next1 + count1 kind) (next2 + count2 kind) ms else [])
     first kind =
         subst
         (λ b. 0 < length (if b then m ∷ cut_within now r profile.batch_bytes (has_expired now m) (0 + size_out r m kind) (next1 + count1 kind) (next2 + count2 kind) ms else []))
         (sym
-        (and_from (is_alike (has_expired now m) (has_expired now m)) (has_place profile.batch_bytes 0 (size_out r m kind)) (alike_itself (has_expired now m))
+        (and_from (is_alike (has_expired now m) (has_expired now m)) (has_byte_place profile.batch_bytes 0 (size_out r m kind)) (alike_itself (has_expired now m))
         (or_right (leb (0 + size_out r m kind) profile.batch_bytes) true refl)))
         (omega arith)
 

@@ -28,7 +28,7 @@ use Rattle.mqtt_packet.specs.Spelling.{written}
 use Rattle.mqtt_packet.specs.Sizes as Packet
 use Rattle.mqtt_packet.specs.Sizes.{packet_size}
 use Rattle.mqtt_packet.specs.SizeLaws.{packet_sized}
-use Rattle.turn_model.specs.Delivery.{waited, expiry_props, identifier_props, props_or_none, publisher_props, delivered_props, delivery_with, delivery, delivery_body_size, delivery_length, delivered_props_size, identifier_size, expiry_size, id_size}
+use Rattle.turn_model.specs.Delivery.{seconds_waited, expiry_props, identifier_props, props_or_none, publisher_props, delivered_props, delivery_with, delivery, delivery_body_size, delivery_length, delivered_props_size, identifier_size, expiry_prop_size, id_size}
 
 -- ---- the size of what is put in writing order, part by part
 
@@ -49,7 +49,7 @@ unfolding in_writing_order
 order_both xs ys = gathered_both identifiers xs ys
 
 -- one property of an identifier that stands in the table, whatever its value is
-expiry_sized : (expiry : Option ℕ) (seconds : ℕ) → bare_size (in_writing_order (expiry_props expiry seconds)) ≡ expiry_size expiry
+expiry_sized : (expiry : Option ℕ) (seconds : ℕ) → bare_size (in_writing_order (expiry_props expiry seconds)) ≡ expiry_prop_size expiry
 unfolding in_writing_order
 expiry_sized None seconds = refl
 expiry_sized (Some expiry) seconds = refl
@@ -89,9 +89,9 @@ pub delivered_sized : (now : ℕ) (v : Version) (m : StoredMessage) (ps : List P
     bare_size (delivered_props now v m) ≡ delivered_props_size v m
 delivered_sized now v m ps are e =
     let of : publisher_props m ≡ ps = ap props_or_none e in
-    let first = order_both (expiry_props m.expiry (waited now m)) (identifier_props v.identifier ++ publisher_props m) in
+    let first = order_both (expiry_props m.expiry (seconds_waited now m)) (identifier_props v.identifier ++ publisher_props m) in
     let second = order_both (identifier_props v.identifier) (publisher_props m) in
-    let expiry = expiry_sized m.expiry (waited now m) in
+    let expiry = expiry_sized m.expiry (seconds_waited now m) in
     let identifier = identifier_sized v.identifier in
     let others : bare_size (in_writing_order (publisher_props m)) ≡ length m.props = ap (λ l. bare_size (in_writing_order l)) of ∙ read_sized In.Publish m.props ps are e in
     omega arith
@@ -152,10 +152,10 @@ delivered_fits : (now : ℕ) (v : Version) (m : StoredMessage) (ps : List Prop) 
 delivered_fits now v m ps are e identifier expiry =
     let P : Prop → Type 0 = IsPropIn In.Publish in
     let others : All P (publisher_props m) = subst (All P) (ap props_or_none (sym e)) (publisher_fits In.Publish m.props ps (bare_takes In.Publish m.props ps are e)) in
-    let first = expiry_fits m.expiry (waited now m) expiry in
+    let first = expiry_fits m.expiry (seconds_waited now m) expiry in
     let second = identifier_fits v.identifier identifier in
-    order_keeps P (expiry_props m.expiry (waited now m) ++ (identifier_props v.identifier ++ publisher_props m))
-    (All-append P (expiry_props m.expiry (waited now m)) (identifier_props v.identifier ++ publisher_props m) first (All-append P (identifier_props v.identifier) (publisher_props m) second others))
+    order_keeps P (expiry_props m.expiry (seconds_waited now m) ++ (identifier_props v.identifier ++ publisher_props m))
+    (All-append P (expiry_props m.expiry (seconds_waited now m)) (identifier_props v.identifier ++ publisher_props m) first (All-append P (identifier_props v.identifier) (publisher_props m) second others))
 
 pub delivery_fits : (dup : Bool) (now : ℕ) (v : Version) (m : StoredMessage) (kind : Kind) (ps : List Prop) → AreBytes m.props → bare_props In.Publish m.props ≡ Ok ps →
     IsTopicName (text_of_levels m.topic) → v.identifier ≤ 268435455 → IfThere (λ (n : ℕ). n < 2 ^ 32) m.expiry → Fits (delivery dup now v m kind)

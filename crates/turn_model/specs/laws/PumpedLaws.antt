@@ -14,7 +14,7 @@ use Rattle.session_model.specs.PlainSession.{PlainSession, Subscription, version
 use Rattle.session_model.specs.Change.{Issues}
 use Rattle.turn_model.specs.PlainConnection.{PlainConnection, rest_of}
 use Rattle.turn_model.specs.Batch.{pump_limit}
-use Rattle.turn_model.specs.Pump.{Pair, pairs_with, pairs_of, is_behind, pairs_after, issues_under, run_in, issues_for, first_issues, pump_of}
+use Rattle.turn_model.specs.Pump.{Pair, pairs_with, pairs_of, is_behind_served, pairs_after, issues_under, run_in, issues_for, first_issues, pump_of}
 use Rattle.turn_model.specs.Counting.{ComesNext, batch_of, taken_of}
 use Rattle.turn_model.specs.laws.PumpLaws.{batch_may_be_issued, sweep_behind_in_order, sweep_behind_counts}
 use Rattle.turn_model.specs.Pumping.{issuing_pair, AreReady, IsPumped, AllIssued}
@@ -46,22 +46,22 @@ live_pairs (s ∷ ss) k p e =
 -- in whatever order they are served
 served_pair : (served : Option (ℕ × ℕ)) (pairs : List Pair) (k : ℕ) (p : Pair) → slice_get (pairs_after served pairs) k ≡ Some p → HasPlace pairs p
 served_pair None pairs k p e = (k, e)
-served_pair (Some served) pairs k p e = by (place_either (filter (is_behind served) pairs) (filter (λ p. not (is_behind served p)) pairs) k p e)
+served_pair (Some served) pairs k p e = by (place_either (filter (is_behind_served served) pairs) (filter (λ p. not (is_behind_served served p)) pairs) k p e)
   where
-    by : HasPlace (filter (is_behind served) pairs) p ⊎ HasPlace (filter (λ p. not (is_behind served p)) pairs) p → HasPlace pairs p
-    by (inl there) = (kept_place (is_behind served) pairs there.0 p there.1).0
-    by (inr there) = (kept_place (λ p. not (is_behind served p)) pairs there.0 p there.1).0
+    by : HasPlace (filter (is_behind_served served) pairs) p ⊎ HasPlace (filter (λ p. not (is_behind_served served p)) pairs) p → HasPlace pairs p
+    by (inl there) = (kept_place (is_behind_served served) pairs there.0 p there.1).0
+    by (inr there) = (kept_place (λ p. not (is_behind_served served p)) pairs there.0 p there.1).0
 
 -- and each is served
 pair_served : (served : Option (ℕ × ℕ)) (pairs : List Pair) (k : ℕ) (p : Pair) → slice_get pairs k ≡ Some p → HasPlace (pairs_after served pairs) p
 pair_served None pairs k p e = (k, e)
-pair_served (Some served) pairs k p e = by (is_behind served p) refl
+pair_served (Some served) pairs k p e = by (is_behind_served served p) refl
   where
-    by : (b : Bool) → is_behind served p ≡ b → HasPlace (filter (is_behind served) pairs ++ filter (λ p. not (is_behind served p)) pairs) p
+    by : (b : Bool) → is_behind_served served p ≡ b → HasPlace (filter (is_behind_served served) pairs ++ filter (λ p. not (is_behind_served served p)) pairs) p
     by true behind =
-        let there = place_kept (is_behind served) pairs k p e behind in place_left (filter (is_behind served) pairs) (filter (λ p. not (is_behind served p)) pairs) there.0 p there.1
+        let there = place_kept (is_behind_served served) pairs k p e behind in place_left (filter (is_behind_served served) pairs) (filter (λ p. not (is_behind_served served p)) pairs) there.0 p there.1
     by false before =
-        let there = place_kept (λ p. not (is_behind served p)) pairs k p e (ap not before) in place_right (filter (is_behind served) pairs) (filter (λ p. not (is_behind served p)) pairs) there.0 p there.1
+        let there = place_kept (λ p. not (is_behind_served served p)) pairs k p e (ap not before) in place_right (filter (is_behind_served served) pairs) (filter (λ p. not (is_behind_served served p)) pairs) there.0 p there.1
 
 -- ---- the law
 

@@ -13,13 +13,13 @@ use Rattle.mqtt_packet.specs.declared.packet.AckKind.{AckKind}
 use Rattle.mqtt_packet.specs.declared.packet.AckKind.TheVariants.{Puback, Pubrec, Pubrel, Pubcomp}
 use Rattle.mqtt_packet.specs.Packet.{PlainPacket, Connect, Connack, Publish, Ack, Subscribe, Suback, Unsubscribe, Unsuback, Pingreq, Pingresp, Disconnect, Auth, AckFields, PublishFields, EndFields}
 use Rattle.turn_model.specs.PlainConnection.{PlainConnection}
-use Rattle.turn_model.specs.SessionStep.{Planned, Answered, Acknowledging, Subscribing, answered, granted_or, granted, live_with, wished_with, filter_reason, wished, ended_or_not, unwished, all_unwished, puback_of, pubrec_of, received_planned, pubcomp_of, with_id1, with_id2, is_next, is_failure, session_step, subscribe_planned, unsubscribe_planned}
+use Rattle.turn_model.specs.SessionStep.{Planned, FilterAnswers, Acknowledging, Subscribing, no_filter_answers, filter_granted_or, filter_granted, live_with, filter_asked, filter_reason, filters_asked, ended_or_not, filter_ended, filters_ended, puback_of, pubrec_of, received_planned, pubcomp_of, with_id1, with_id2, is_next, is_failure, session_step, subscribe_planned, unsubscribe_planned}
 use Rattle.turn_model.specs.SessionStep as Session
 use Rattle.turn_model.specs.Reasons as Reason
 use Rattle.turn_model.specs.Delivery.{qos_of}
 use Rattle.turn_model.specs.Resend.{passed1, passed2}
 use Rattle.turn_model.specs.Step.{Setting, Outcome, Kept, IsFull, AwaitsTooMany, Faulted, asking, breaking, closing_silently}
-use Rattle.turn_model.specs.PublishStep.{PublishCase, Closes, Repeats, Refuses, Asks, publish_case, publish_by_case, publish_by_outcome, publish_step, pubrel_step, is_awaited, release_group, completed}
+use Rattle.turn_model.specs.PublishStep.{PublishCase, Closes, Repeats, Refuses, Asks, publish_case, publish_by_case, publish_by_outcome, publish_step, pubrel_step, is_awaited, release_group, completion_step}
 use Rattle.turn_model.specs.PacketStep.{step_unless, planned_step, packet_step, ack_step, disconnect_step, puback_event, pubrec_event, breaks_interval, interval_of, passed_or_none, starts_of}
 
 -- ---- changes of one client
@@ -43,47 +43,47 @@ others_after sessions client other (c ∷ changes) differ are =
 -- ---- SUBSCRIBE and UNSUBSCRIBE
 
 -- the session is the client's, and so are the changes
-abbrev IsOf : List ℕ → Answered → Type 0
+abbrev IsOf : List ℕ → FilterAnswers → Type 0
 IsOf client a = (a.session.client ≡ client) × AreOf client a.changes
 
 module _ (client : List ℕ) where
-  one_more : (effect : Effect) (reason : ℕ) (a : Answered) → IsOf client a → IsOf client (Session.changed effect reason a)
+  one_more : (effect : Effect) (reason : ℕ) (a : FilterAnswers) → IsOf client a → IsOf client (Session.with_filter_change effect reason a)
   one_more effect reason a is = (keeps_client effect a.session ∙ is.0, of_both client a.changes (change a.session.client effect ∷ []) is.1 (is.0, tt))
 
-  granted_or_is : (b : Bool) (effect : Effect) (options : ℕ) (a : Answered) → IsOf client a → IsOf client (granted_or b effect options a)
+  granted_or_is : (b : Bool) (effect : Effect) (options : ℕ) (a : FilterAnswers) → IsOf client a → IsOf client (filter_granted_or b effect options a)
   granted_or_is true effect options a is = one_more effect (qos_of options) a is
   granted_or_is false effect options a is = is
 
-  granted_is : (profile : Profile) (s : Subscribing) (wish : Wish) (live : Option Subscription) (a : Answered) → IsOf client a → IsOf client (granted profile s wish live a)
+  granted_is : (profile : Profile) (s : Subscribing) (wish : Wish) (live : Option Subscription) (a : FilterAnswers) → IsOf client a → IsOf client (filter_granted profile s wish live a)
   granted_is profile s wish (Some live) a is =
       granted_or_is (Session.has_version_left a.session) (Session.replaced_in a.session live wish.options s.identifier) wish.options a is
   granted_is profile s wish None a is =
-      granted_or_is (Session.has_place profile a.session wish.filter) (Session.subscribed_in a.session wish s.identifier s.starts) wish.options a is
+      granted_or_is (Session.has_subscription_place profile a.session wish.filter) (Session.subscribed_in a.session wish s.identifier s.starts) wish.options a is
 
-  wished_with_is : (profile : Profile) (s : Subscribing) (wish : Wish) (reason : Option ℕ) (a : Answered) → IsOf client a → IsOf client (wished_with profile s wish reason a)
+  wished_with_is : (profile : Profile) (s : Subscribing) (wish : Wish) (reason : Option ℕ) (a : FilterAnswers) → IsOf client a → IsOf client (filter_asked profile s wish reason a)
   wished_with_is profile s wish (Some reason) a is = is
   wished_with_is profile s wish None a is = granted_is profile s wish (live_with wish.filter a.session) a is
 
-  wished_is : (profile : Profile) (s : Subscribing) (place : ℕ) (wishes : List Wish) (a : Answered) → IsOf client a → IsOf client (wished profile s place wishes a)
+  wished_is : (profile : Profile) (s : Subscribing) (place : ℕ) (wishes : List Wish) (a : FilterAnswers) → IsOf client a → IsOf client (filters_asked profile s place wishes a)
   wished_is profile s place [] a is = is
   wished_is profile s place (wish ∷ wishes) a is =
-      wished_is profile s (place + 1) wishes (wished_with profile s wish (filter_reason profile place wish.filter) a)
+      wished_is profile s (place + 1) wishes (filter_asked profile s wish (filter_reason profile place wish.filter) a)
       (wished_with_is profile s wish (filter_reason profile place wish.filter) a is)
 
-  ended_is : (found : Option Subscription) (a : Answered) → IsOf client a → IsOf client (ended_or_not found a)
+  ended_is : (found : Option Subscription) (a : FilterAnswers) → IsOf client a → IsOf client (ended_or_not found a)
   ended_is (Some s) a is = one_more (Unsubscribed s.number) Reason.success a is
   ended_is None a is = is
 
-  unwished_is : (text : List ℕ) (a : Answered) → IsOf client a → IsOf client (unwished text a)
+  unwished_is : (text : List ℕ) (a : FilterAnswers) → IsOf client a → IsOf client (filter_ended text a)
   unwished_is text a is = by (is_some (filter_refusal text))
     where
-      by : (b : Bool) → IsOf client (if b then Session.reasoned Reason.bad_filter a else ended_or_not (live_with text a.session) a)
+      by : (b : Bool) → IsOf client (if b then Session.with_filter_reason Reason.bad_filter a else ended_or_not (live_with text a.session) a)
       by true = is
       by false = ended_is (live_with text a.session) a is
 
-  all_unwished_is : (texts : List (List ℕ)) (a : Answered) → IsOf client a → IsOf client (all_unwished texts a)
+  all_unwished_is : (texts : List (List ℕ)) (a : FilterAnswers) → IsOf client a → IsOf client (filters_ended texts a)
   all_unwished_is [] a is = is
-  all_unwished_is (text ∷ texts) a is = all_unwished_is texts (unwished text a) (unwished_is text a is)
+  all_unwished_is (text ∷ texts) a is = all_unwished_is texts (filter_ended text a) (unwished_is text a is)
 
 -- ---- PUBACK, PUBREC and PUBCOMP
 
@@ -92,7 +92,7 @@ puback_is m passed None = tt
 puback_is m passed (Some number) = by (is_next m.acked passed number)
   where
     by : (b : Bool) →
-        AreOf m.client (if b then Session.changing (change m.client (Acked number) ∷ []) else Session.breaking Reason.rule_out_of_order).changes
+        AreOf m.client (if b then Session.changing (change m.client (Acked number) ∷ []) else Session.planned_breach Reason.rule_out_of_order).changes
     by true = (refl, tt)
     by false = tt
 
@@ -111,7 +111,7 @@ pubrec_is m a (Some number) = by (nat_le number m.received) (is_next m.received 
   where
     by : (b c : Bool) → AreOf m.client (if b then Session.answering [] (Session.pubrel_of a.id Reason.success ∷ [])
         else if c then received_planned m a number
-        else Session.breaking Reason.rule_out_of_order).changes
+        else Session.planned_breach Reason.rule_out_of_order).changes
     by true c = tt
     by false true = received_is m a number
     by false false = tt
@@ -121,7 +121,7 @@ pubcomp_is m None = tt
 pubcomp_is m (Some number) = by (nat_le number m.received)
   where
     by : (b : Bool) →
-        AreOf m.client (if b then Session.changing (change m.client (Done number) ∷ []) else Session.breaking Reason.rule_not_received).changes
+        AreOf m.client (if b then Session.changing (change m.client (Done number) ∷ []) else Session.planned_breach Reason.rule_not_received).changes
     by true = (refl, tt)
     by false = tt
 
@@ -154,7 +154,7 @@ pubrel_is : (s : Setting) (k : PlainConnection) (m : PlainSession) (id : ℕ) (o
 pubrel_is s k m id [] = by (is_awaited s m id)
   where
     by : (b : Bool) →
-        AreOf m.client (if b then asking (release_group s m id) else completed id Reason.no_packet_identifier).changes
+        AreOf m.client (if b then asking (release_group s m id) else completion_step id Reason.no_packet_identifier).changes
     by true = tt
     by false = tt
 pubrel_is s k m id (Kept ∷ outcomes) = tt
@@ -187,10 +187,10 @@ packet_changes s k m (Publish p) outcomes = publish_is s k m p outcomes
 packet_changes s k m (Ack kind a) outcomes = ack_is s k m kind a outcomes
 packet_changes s k m (Subscribe f) outcomes =
     let e : Subscribing = record { id = f.id; identifier = or_default (first_of var_in f.props) 0; filters = f.filters; starts = starts_of s.seen } in
-    planned_is m.client k.number (subscribe_planned s.profile m e) (wished_is m.client s.profile e 0 f.filters (answered m) (refl, tt)).1
+    planned_is m.client k.number (subscribe_planned s.profile m e) (wished_is m.client s.profile e 0 f.filters (no_filter_answers m) (refl, tt)).1
 packet_changes s k m (Suback a) outcomes = tt
 packet_changes s k m (Unsubscribe f) outcomes =
-    planned_is m.client k.number (unsubscribe_planned m (record { id = f.id; filters = f.filters })) (all_unwished_is m.client f.filters (answered m) (refl, tt)).1
+    planned_is m.client k.number (unsubscribe_planned m (record { id = f.id; filters = f.filters })) (all_unwished_is m.client f.filters (no_filter_answers m) (refl, tt)).1
 packet_changes s k m (Unsuback a) outcomes = tt
 packet_changes s k m Pingreq outcomes = tt
 packet_changes s k m Pingresp outcomes = tt

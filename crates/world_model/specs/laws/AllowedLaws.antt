@@ -11,11 +11,11 @@ use Rattle.shard_model.specs.laws.AllowedMoveLaws as ShardLaws
 use Rattle.mqtt_packet.specs.Packet.{PlainPacket}
 use Rattle.turn_model.specs.Step.{Ask}
 use Rattle.turn_model.specs.Worker.{Worker, Out, setting_of, connection_in, session_in}
-use Rattle.turn_model.specs.WorkerMoves.{WorkerMove, Asked, worker_step}
+use Rattle.turn_model.specs.WorkerMoves.{WorkerMove, Asker, worker_step}
 use Rattle.turn_model.specs.WorkerMoves as Workers
 use Rattle.turn_model.specs.Allowed.{worker_allows}
 use Rattle.turn_model.specs.laws.AllowedLaws as WorkerLaws
-use Rattle.world_model.specs.World.{World, WorldShard, Move, Begin, Store, BeginRotate, Rotate, BeginDrop, Drop, SettleShard, Show, View, BeginCommit, Commit, SettleJournal, Emit, Bind, TakeOver, Unbind, Crash, at_place, ask_with, asked_with, moved, begun, begin_group, begin_at, begin_by, handed_if, handed_by, acks_of, outs_of, on_shard, on_worker, stored_at, world_step, world_outs}
+use Rattle.world_model.specs.World.{World, WorldShard, Move, Begin, Store, BeginRotate, Rotate, BeginDrop, Drop, SettleShard, Show, View, BeginCommit, Commit, SettleJournal, Emit, Bind, TakeOver, Unbind, Crash, at_place, ask_with, asker_with, shard_moved, group_begun, begin_group, begin_at, begin_by, handed_if, handed_by, acks_of, outs_of, on_shard, on_worker, stored_at, world_step, world_outs}
 use Rattle.world_model.specs.Allowed.{allows_shard, allows_worker, allows_group, allows_begin, world_allows}
 
 -- ---- one of several that stays
@@ -28,20 +28,20 @@ stays_at (suc place) f (x ∷ xs) same = ap (λ ys. x ∷ ys) (stays_at place f 
 module _ (profile : Profile) (config : Config) where
   -- ---- a shard
 
-  shard_same : (move : ShardMove) (s : WorldShard) → shard_allows profile config s.shard move ≡ false → moved profile config move s ≡ s
+  shard_same : (move : ShardMove) (s : WorldShard) → shard_allows profile config s.shard move ≡ false → shard_moved profile config move s ≡ s
   shard_same move s never = ap (λ (x : Shard). record s { shard = x }) (ShardLaws.not_allowed profile config s.shard move never)
 
   shards_same : (place : ℕ) (move : ShardMove) (ss : List WorldShard) → allows_shard profile config move (slice_get ss place) ≡ false →
-      at_place place (moved profile config move) ss ≡ ss
+      at_place place (shard_moved profile config move) ss ≡ ss
   shards_same place move ss never =
-      stays_at place (moved profile config move) ss (λ s at. shard_same move s (ap (allows_shard profile config move) (sym at) ∙ never))
+      stays_at place (shard_moved profile config move) ss (λ s at. shard_same move s (ap (allows_shard profile config move) (sym at) ∙ never))
 
   -- ---- a group
 
-  begun_none : (asked : Asked) (ops : List Op) (now : ℕ) (s : WorldShard) → shard_allows profile config s.shard (Shards.Begin ops now) ≡ false →
+  begun_none : (asked : Asker) (ops : List Op) (now : ℕ) (s : WorldShard) → shard_allows profile config s.shard (Shards.Begin ops now) ≡ false →
       begin_group profile config asked ops now s ≡ s
   begun_none asked ops now s never =
-      ap (λ (x : Shard). begun profile config asked s.shard x s) (ShardLaws.not_allowed profile config s.shard (Shards.Begin ops now) never)
+      ap (λ (x : Shard). group_begun profile config asked s.shard x s) (ShardLaws.not_allowed profile config s.shard (Shards.Begin ops now) never)
       ∙ keeps s.shard.pending
     where
       keeps : (p : PendingChange) → record s { shard = s.shard; asked = if pends_nothing p && if_group p then Some asked else s.asked } ≡ s
@@ -50,7 +50,7 @@ module _ (profile : Profile) (config : Config) where
       keeps (Shards.ACut moment) = refl
       keeps Shards.ADrop = refl
 
-  begin_same : (shard now : ℕ) (ask : Option Ask) (asked : Option Asked) (ss : List WorldShard) → allows_group profile config shard now ask asked (slice_get ss shard) ≡ false →
+  begin_same : (shard now : ℕ) (ask : Option Ask) (asked : Option Asker) (ss : List WorldShard) → allows_group profile config shard now ask asked (slice_get ss shard) ≡ false →
       begin_at profile config shard now ask asked ss ≡ ss
   begin_same shard now None None ss never = refl
   begin_same shard now None (Some asked) ss never = refl
@@ -69,7 +69,7 @@ module _ (profile : Profile) (config : Config) where
   begin_by_same shard conn packets now None ss never = refl
   begin_by_same shard conn packets now (Some w) ss never =
       begin_same shard now (ask_with (setting_of profile config now w) packets (connection_in w conn) (session_in w conn))
-      (asked_with w.number conn packets (session_in w conn)) ss never
+      (asker_with w.number conn packets (session_in w conn)) ss never
 
   handed_same : (shard : ℕ) (s : Option WorldShard) (ws : List Worker) → allows_shard profile config Shards.Store s ≡ false → handed_by profile config shard s ws ≡ ws
   handed_same shard None ws never = refl
