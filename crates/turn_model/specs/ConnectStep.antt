@@ -1,7 +1,7 @@
 -- CONNECT (MQTT 3.1): which session it begins or resumes, why it is refused, and what CONNACK says (MQTT 3.2).
 use Rattle.std.specs.Prelude.{ℕ, zero, suc, ◌+◌, Bool, true, false, ◌&&◌, ◌||◌, not, ◌==◌, nat_le, nat_lt, if◌then◌else◌, List, [], ◌∷◌, ◌++◌, length, Option, Some, None, is_some}
 use Rattle.topic_model.specs.Profile.{Profile}
-use Rattle.topic_model.specs.Routing.{assigned_identifier}
+use Rattle.topic_model.specs.Routing.{assigned_identifier, routed_worker}
 use Rattle.session_model.specs.PlainSession.{PlainSession, Sessions, session_of}
 use Rattle.session_model.specs.Change.{Change, Began, Ended, Bound, change}
 use Rattle.session_model.specs.Acting.{without_session}
@@ -13,7 +13,7 @@ use Rattle.mqtt_props.specs.declared.prop.Prop.TheVariants.{Byte, Two, Four, Tex
 use Rattle.mqtt_props.specs.Lookup.{first_of, text_in, two_in}
 use Rattle.mqtt_packet.specs.Packet.{PlainPacket, Connack, ConnectFields}
 use Rattle.turn_model.specs.PlainConnection.{connection_of, expiry_of, no_effects}
-use Rattle.turn_model.specs.Step.{Setting, Step, idle, reply, Close, close_with}
+use Rattle.turn_model.specs.Step.{Setting, Step, reply, Close, close_with}
 use Rattle.turn_model.specs.Reasons as Reason
 
 -- ---- the client identifier (MQTT 3.1.3.1)
@@ -74,6 +74,21 @@ abbrev pub connect_changes : Setting → ConnectFields → List ℕ → Bool →
 connect_changes s c client true = change client (Bound (expiry_of c.props)) ∷ []
 connect_changes s c client false = ended_if (is_some (session_of client s.sessions)) client ++ began_change s c client ∷ []
 
+-- the number of the session that is resumed, or of the one that begins
+abbrev pub number_or : ℕ → Option PlainSession → ℕ
+number_or next None = next
+number_or next (Some m) = m.incarnation
+
+abbrev pub session_number : Setting → ConnectFields → ℕ
+session_number s c =
+    if is_resumed_if s c (session_of (client_for s c) s.sessions)
+    then number_or s.sessions.next (session_of (client_for s c) s.sessions)
+    else s.sessions.next
+
+-- a client is taken by the worker that it is routed to, and by no other
+abbrev pub is_home : Setting → List ℕ → Bool
+is_home s client = routed_worker client s.config.workers == s.worker
+
 -- ---- refusals
 
 -- no place among the sessions, or no number is left for a new one
@@ -133,14 +148,6 @@ connect_accepted s c client present =
       effects = no_effects;
     }
 
-abbrev pub connect_refused : ℕ → ℕ → ℕ → Step
-connect_refused conn reason rule =
-    record idle { replies = reply (refusing reason) ∷ []; closes = record { connection = conn; reason = None; rule = rule } ∷ [] }
-
-abbrev pub connect_by : Setting → ℕ → ConnectFields → Option ℕ → Step
-connect_by s conn c (Some reason) = connect_refused conn reason 0
-connect_by s conn c None = connect_accepted s c (client_for s c) (is_resumed_if s c (session_of (client_for s c) s.sessions))
-
--- the first packet of a connection, read as a CONNECT
-abbrev pub connect_step : Setting → ℕ → ConnectFields → Step
-connect_step s conn c = connect_by s conn c (connect_refusal s c)
+-- the first packet of a connection, read as a CONNECT that isn't refused
+abbrev pub connect_step : Setting → ConnectFields → Step
+connect_step s c = connect_accepted s c (client_for s c) (is_resumed_if s c (session_of (client_for s c) s.sessions))

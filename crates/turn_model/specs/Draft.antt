@@ -8,10 +8,10 @@ use Rattle.session_model.specs.Change.{Change}
 use Rattle.mqtt_frame.specs.declared.refused.BadHeader.{BadHeader}
 use Rattle.mqtt_frame.specs.PlainFramer.{PlainFramer}
 use Rattle.mqtt_packet.specs.Packet.{PlainPacket, PublishFields}
-use Rattle.turn_model.specs.PlainConnection.{PlainConnection, connection_of}
-use Rattle.turn_model.specs.Step.{Setting, is_empty}
+use Rattle.turn_model.specs.PlainConnection.{PlainConnection, connection_of, packet_limit_of}
+use Rattle.turn_model.specs.Step.{Setting, reply, is_empty}
 use Rattle.turn_model.specs.ConnectStep.{refusing}
-use Rattle.turn_model.specs.Worker.{Worker, Item, Answer, Answers, Accepts, Delivers, PendingRecord, Out, Sent, Closed, setting_of, connection_in, are_sendable}
+use Rattle.turn_model.specs.Worker.{Worker, Item, Answer, Answers, Accepts, Delivers, PendingRecord, Out, Sent, Closed, setting_of, connection_in, is_short, are_sendable}
 use Rattle.turn_model.specs.WorkerMoves.{WorkerMove, View, BeginCommit, Commit, Emit, OfItem, Unbind, Cause, OfPackets, OfConnect, OfPump, OfTick, OfOwed, Ending, with_reason, silently, Stepped, worker_step, worker_outs, item_at}
 use Rattle.turn_model.specs.Reasons as Reason
 
@@ -53,9 +53,9 @@ pub data Token : Type 0 where
   BadFront : BadHeader → Token
   EndOfPiece : Token
 
--- What a turn speaks of in its report: how many entries its Issued record has, how many packets its pump put out, the reason of its own
--- connection's close, 0 where none was written, and the rule that was broken, 0 for none; and the shard and the offset whose fault, or
--- absence, was handed in.
+-- What a turn speaks of in its report: how many entries its Issued record has, how many packets its pump put out, the
+-- reason with which the server closed its own connection, 0 where none was written, and the rule that was broken, 0 for
+-- none; and the first shard whose fault, and the first offset whose absence, was handed in.
 pub record Report : Type 0 where
   pub issued : ℕ
   pub sent : ℕ
@@ -192,10 +192,14 @@ own_closed reason rule d = record d { status = Ended; report = record d.report {
 abbrev pub own_unbound_closed : ℕ → ℕ → Draft → Draft
 own_unbound_closed conn rule d = own_closed None rule (closed_unbound conn d)
 
--- a refused CONNECT is answered, and its connection closed
-abbrev pub connect_refused : ℕ → ℕ → ℕ → Draft → Draft
-connect_refused conn reason rule d =
+-- A refused CONNECT is answered, unless its client takes no packet so long (MQTT 3.1.2.11.4), and its connection closed.
+abbrev pub refused_if : Bool → ℕ → ℕ → ℕ → Draft → Draft
+refused_if true conn reason rule d =
     own_closed (Some reason) rule (closed_unbound conn (record d { outs = d.outs ++ Sent conn (refusing reason) ∷ [] }))
+refused_if false conn reason rule d = own_unbound_closed conn rule d
+
+abbrev pub connect_refused : ℕ → ℕ → ℕ → ℕ → Draft → Draft
+connect_refused limit conn reason rule d = refused_if (is_short limit (reply (refusing reason))) conn reason rule d
 
 -- ---- the session that a record names
 
@@ -245,7 +249,7 @@ module _ (profile : Profile) (config : Config) (now : ℕ) where
   -- a CONNECT isn't bound yet: it is told by its CONNACK
   abbrev pub own_closed_by_journal : Cause → Draft → Draft
   own_closed_by_journal (OfPackets conn packets) d = own_bound_closed conn (with_reason Reason.implementation_error) 0 d
-  own_closed_by_journal (OfConnect conn c) d = connect_refused conn Reason.implementation_error 0 d
+  own_closed_by_journal (OfConnect conn c) d = connect_refused (packet_limit_of c.props) conn Reason.implementation_error 0 d
   own_closed_by_journal (OfPump conn b) d = own_bound_closed conn (with_reason Reason.implementation_error) 0 d
   own_closed_by_journal OfTick d = d
   own_closed_by_journal OfOwed d = d
@@ -289,8 +293,8 @@ module _ (profile : Profile) (config : Config) (now : ℕ) where
 
   abbrev pub are_short : PlainConnection → Answer → Bool
   are_short k (Answers rs effects) = are_sendable k.packet_limit rs
-  are_short k (Accepts c client rs) = are_sendable k.packet_limit rs
-  are_short k (Delivers b fresh) = true
+  are_short k (Accepts c client number rs) = are_sendable k.packet_limit rs
+  are_short k (Delivers b moment fresh) = true
 
   abbrev pub item_is_short : Option PlainConnection → Option Item → Bool
   item_is_short (Some k) (Some i) = are_short k i.answer

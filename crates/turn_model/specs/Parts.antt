@@ -1,5 +1,5 @@
 -- Parts of a turn: what one call of a worker does, at an arrival and behind what it asked for.
-use Rattle.std.specs.Prelude.{ℕ, zero, suc, ◌+◌, max, Bool, true, false, ◌&&◌, not, ◌==◌, ◌%◌, nat_lt, if◌then◌else◌, List, [], ◌∷◌, ◌++◌, length, map, filter, slice_get, Option, Some, None}
+use Rattle.std.specs.Prelude.{ℕ, zero, suc, ◌+◌, max, Bool, true, false, ◌&&◌, not, ◌==◌, ◌%◌, nat_lt, if◌then◌else◌, List, [], ◌∷◌, ◌++◌, length, map, filter, slice_get, Option, Some, None, is_some}
 use Rattle.std.specs.List.{list_any}
 use Rattle.topic_model.specs.Profile.{Profile, Config}
 use Rattle.shard_model.specs.ShardList.{ShardList, newest}
@@ -15,7 +15,7 @@ use Rattle.mqtt_frame.specs.PlainFramer.{opening}
 use Rattle.mqtt_packet.specs.Packet.{Publish, PublishFields}
 use Rattle.turn_model.specs.PlainConnection.{PlainConnection, rest_of}
 use Rattle.turn_model.specs.Pump.{pump_of}
-use Rattle.turn_model.specs.Resend.{Resent, resent, Again, Publishes, again, pass_changes, issued_packets}
+use Rattle.turn_model.specs.Resend.{Resent, resent, Again, Publishes, again, packets_with, entries_with, pass_changes, issued_packets}
 use Rattle.turn_model.specs.Step.{Outcome, Kept, IsFull, AwaitsTooMany, Faulted, Close, Step, is_empty}
 use Rattle.turn_model.specs.PacketStep.{tick_step}
 use Rattle.turn_model.specs.Worker.{Worker, PendingRecord, Closed, connection_in, session_in, sessions_of}
@@ -71,9 +71,9 @@ abbrev pub is_asked : ℕ → List ℕ → Bool
 is_asked shard shards = list_any (λ (s : ℕ). s == shard) shards
 
 abbrev pub first_cold : List ShardList → List ℕ → List Entry → List ℕ → Option (ℕ × List ℕ)
-first_cold lists group_asked es [] = None
-first_cold lists group_asked es (shard ∷ shards) =
-    or_places shard (if is_asked shard group_asked then [] else cold_places lists shard es) (first_cold lists group_asked es shards)
+first_cold lists asked es [] = None
+first_cold lists asked es (shard ∷ shards) =
+    or_places shard (if is_asked shard asked then [] else cold_places lists shard es) (first_cold lists asked es shards)
 
 module _ (profile : Profile) (config : Config) (now : ℕ) where
   -- ---- a pump
@@ -86,7 +86,7 @@ module _ (profile : Profile) (config : Config) (now : ℕ) where
   -- what is sent again is put out, and then what was passed over above the marks is finished
   abbrev pub resent_out : ℕ → Resent → Draft → Draft
   resent_out conn r d =
-      let sent = push profile config now (Emit (OfResend conn) now) (record d { report = record d.report { sent = length r.packets } }) in
+      let sent = push profile config now (Emit (OfResend conn) now) (record d { report = record d.report { sent = length (packets_with r.taken) } }) in
       passed_after conn (connection_in sent.worker conn) (session_in sent.worker conn) sent
 
   abbrev pub with_counts : ℕ → ℕ → Draft → Draft
@@ -102,37 +102,37 @@ module _ (profile : Profile) (config : Config) (now : ℕ) where
       put_out_answer profile config now conn (with_counts_if (is_going done.status) (length b.entries) (length (issued_packets now m d.worker.seen b.entries)) done)
 
   abbrev pub asking_bodies : List ℕ → ℕ × List ℕ → Draft → Draft
-  asking_bodies group_asked places d = record d { status = Waiting (ForBodies places.0 places.1) (AfterBodies (group_asked ++ places.0 ∷ [])) }
+  asking_bodies asked places d = record d { status = Waiting (ForBodies places.0 places.1) (AfterBodies (asked ++ places.0 ∷ [])) }
 
   abbrev pub cold_of : List ℕ → List Entry → Draft → Option (ℕ × List ℕ)
-  cold_of group_asked es d = if profile.cools then first_cold d.worker.seen group_asked es (counted_from 0 (length d.worker.seen)) else None
+  cold_of asked es d = if profile.cools then first_cold d.worker.seen asked es (counted_from 0 (length d.worker.seen)) else None
 
   abbrev pub resend_unless : Option (ℕ × List ℕ) → List ℕ → ℕ → Resent → Draft → Draft
-  resend_unless (Some places) group_asked conn r d = asking_bodies group_asked places d
-  resend_unless None group_asked conn r d = resent_out conn r d
+  resend_unless (Some places) asked conn r d = asking_bodies asked places d
+  resend_unless None asked conn r d = resent_out conn r d
 
   abbrev pub issue_unless : Option (ℕ × List ℕ) → List ℕ → ℕ → PlainSession → PlainConnection → Issues → Draft → Draft
-  issue_unless (Some places) group_asked conn m k b d = asking_bodies group_asked places d
-  issue_unless None group_asked conn m k b d = issued_out conn m k b d
+  issue_unless (Some places) asked conn m k b d = asking_bodies asked places d
+  issue_unless None asked conn m k b d = issued_out conn m k b d
 
   abbrev pub issued_by : List ℕ → ℕ → PlainSession → PlainConnection → Option Issues → Draft → Draft
-  issued_by group_asked conn m k None d = passed_after conn (Some k) (Some m) d
-  issued_by group_asked conn m k (Some b) d = issue_unless (cold_of group_asked (loud b.entries) d) group_asked conn m k b d
+  issued_by asked conn m k None d = passed_after conn (Some k) (Some m) d
+  issued_by asked conn m k (Some b) d = issue_unless (cold_of asked (loud b.entries) d) asked conn m k b d
 
   -- what is left to be sent again goes first
   abbrev pub pump_taken_by : List ℕ → ℕ → PlainSession → PlainConnection → List Entry → Draft → Draft
-  pump_taken_by group_asked conn m k (e ∷ es) d =
+  pump_taken_by asked conn m k (e ∷ es) d =
       let r = resent profile now m k d.worker.seen in
-      resend_unless (cold_of group_asked (entries_published_again m k now d.worker.seen r.taken) d) group_asked conn r d
-  pump_taken_by group_asked conn m k [] d = issued_by group_asked conn m k (pump_of profile now m k d.worker.seen) d
+      resend_unless (cold_of asked (entries_published_again m k now d.worker.seen (entries_with r.taken)) d) asked conn r d
+  pump_taken_by asked conn m k [] d = issued_by asked conn m k (pump_of profile now m k d.worker.seen) d
 
   abbrev pub pump_taken_with : List ℕ → ℕ → Option PlainConnection → Option PlainSession → Draft → Draft
-  pump_taken_with group_asked conn (Some k) (Some m) d = pump_taken_by group_asked conn m k (rest_of m k) d
-  pump_taken_with group_asked conn k m d = d
+  pump_taken_with asked conn (Some k) (Some m) d = pump_taken_by asked conn m k (rest_of m k) d
+  pump_taken_with asked conn k m d = d
 
   -- a pump that has asked these shards for bodies
   abbrev pub pump_taken : List ℕ → ℕ → Draft → Draft
-  pump_taken group_asked conn d = pump_taken_with group_asked conn (connection_in d.worker conn) (session_in d.worker conn) d
+  pump_taken asked conn d = pump_taken_with asked conn (connection_in d.worker conn) (session_in d.worker conn) d
 
   -- ---- a Tick
 
@@ -229,13 +229,33 @@ module _ (profile : Profile) (config : Config) (now : ℕ) where
   settled_first None arrival d = arrival_taken arrival d
   settled_first (Some p) arrival d = settled_with (draw d.fates) arrival d
 
+  -- an arrival of a connection that isn't open does nothing: nothing is settled either
+  abbrev pub is_open : ℕ → Draft → Bool
+  is_open conn d = is_some (reading_at conn d.beside.readings)
+
+  abbrev pub concerns : Arrival → Draft → Bool
+  concerns (Opened conn) d = true
+  concerns (Bytes conn piece) d = is_open conn d
+  concerns (ClosedByClient conn) d = is_open conn d
+  concerns (Pump conn) d = is_open conn d
+  concerns Tick d = true
+
+  abbrev pub started_if : Bool → Arrival → Draft → Draft
+  started_if true arrival d = settled_first d.worker.pending arrival d
+  started_if false arrival d = d
+
   abbrev pub arrival_started : Arrival → Draft → Draft
-  arrival_started arrival d = settled_first d.worker.pending arrival d
+  arrival_started arrival d = started_if (concerns arrival d) arrival d
 
   -- ---- behind what was asked
 
+  abbrev pub first_of_two : Option ℕ → ℕ → Option ℕ
+  first_of_two None later = Some later
+  first_of_two (Some first) later = Some first
+
+  -- the first one is reported
   abbrev pub failed_shard : ℕ → Draft → Draft
-  failed_shard shard d = record d { report = record d.report { shard_fault = Some shard } }
+  failed_shard shard d = record d { report = record d.report { shard_fault = first_of_two d.report.shard_fault shard } }
 
   -- the next publish that is asked by itself, or the tokens that are left
   abbrev pub gone_on : ℕ → List PublishFields → List Token → Draft → Draft
@@ -259,13 +279,13 @@ module _ (profile : Profile) (config : Config) (now : ℕ) where
   own_closed_by_shard conn shard d = own_bound_closed profile config now conn (with_reason Reason.implementation_error) 0 (failed_shard shard d)
 
   abbrev pub publishes_done : ℕ → ℕ → List PublishFields → Outcome → Todo → Draft → Draft
-  publishes_done conn shard ps Kept todo d = went_on conn todo (put_out_answer profile config now conn d)
+  publishes_done conn shard ps (Kept acked) todo d = went_on conn todo (put_out_answer profile config now conn d)
   publishes_done conn shard ps IsFull todo d = refused_publishes conn ps IsFull todo d
   publishes_done conn shard ps AwaitsTooMany todo d = refused_publishes conn ps AwaitsTooMany todo d
   publishes_done conn shard ps Faulted todo d = own_closed_by_shard conn shard d
 
   abbrev pub release_done : ℕ → ℕ → Outcome → Todo → Draft → Draft
-  release_done conn shard Kept todo d = went_on conn todo (put_out_answer profile config now conn d)
+  release_done conn shard (Kept acked) todo d = went_on conn todo (put_out_answer profile config now conn d)
   release_done conn shard other todo d = own_closed_by_shard conn shard d
 
   abbrev pub bodies_done : ℕ → ℕ → List ℕ → Response → Draft → Draft

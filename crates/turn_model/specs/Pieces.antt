@@ -8,10 +8,10 @@ use Rattle.mqtt_frame.specs.PlainFramer.{Fed, fed}
 use Rattle.mqtt_packet.specs.declared.packet.AckKind.{AckKind}
 use Rattle.mqtt_packet.specs.declared.packet.AckKind.TheVariants.{Puback, Pubrec, Pubrel, Pubcomp}
 use Rattle.mqtt_packet.specs.declared.refused.ReadRefused.{ReadRefused}
-use Rattle.mqtt_packet.specs.declared.refused.ReadRefused.TheVariants.{Version, Malformed, Protocol, Memory}
+use Rattle.mqtt_packet.specs.declared.refused.ReadRefused.TheVariants.{Version, Protocol}
 use Rattle.mqtt_packet.specs.Packet.{PlainPacket, Connect, Publish, Ack, Disconnect, PublishFields, ConnectFields}
 use Rattle.mqtt_packet.specs.Answer.{answer}
-use Rattle.turn_model.specs.PlainConnection.{PlainConnection}
+use Rattle.turn_model.specs.PlainConnection.{PlainConnection, packet_limit_of}
 use Rattle.turn_model.specs.Step.{Outcome, Close, Ask, Step, is_empty}
 use Rattle.turn_model.specs.PublishStep.{publish_case, is_asking, publish_group, joins}
 use Rattle.turn_model.specs.ConnectStep.{connect_refusal, connect_step}
@@ -33,9 +33,8 @@ pub data ReadAs : Type 0 where
 abbrev pub read_as : Result PlainPacket ReadRefused → ReadAs
 read_as (Ok packet) = Is packet
 read_as (Err Version) = Closes Reason.protocol_error Reason.rule_second_connect
-read_as (Err Malformed) = Closes Reason.malformed_packet 0
 read_as (Err (Protocol rule)) = Closes Reason.protocol_error rule
-read_as (Err Memory) = Closes Reason.malformed_packet 0
+read_as (Err other) = Closes Reason.malformed_packet 0
 
 abbrev pub header_reason : BadHeader → ℕ
 header_reason Length = Reason.malformed_packet
@@ -250,23 +249,26 @@ module _ (profile : Profile) (config : Config) (now : ℕ) where
   connect_bound conn closes d = connect_bound_if (is_going d.status) conn closes d
 
   abbrev pub connect_taken_unless : Option ℕ → ℕ → ConnectFields → Step → Draft → Draft
-  connect_taken_unless (Some reason) conn c step d = connect_refused conn reason 0 d
+  connect_taken_unless (Some reason) conn c step d = connect_refused (packet_limit_of c.props) conn reason 0 d
   connect_taken_unless None conn c step d = connect_bound conn step.closes (committed_with_owed profile config now (OfConnect conn c) (length step.changes) d)
 
   abbrev pub connect_taken : ℕ → ConnectFields → Draft → Draft
   connect_taken conn c d =
-      connect_taken_unless (connect_refusal (setting_in profile config now d) c) conn c (connect_step (setting_in profile config now d) conn c) d
+      connect_taken_unless (connect_refusal (setting_in profile config now d) c) conn c (connect_step (setting_in profile config now d) c) d
 
   abbrev pub first_packet : ℕ → PlainPacket → Draft → Draft
   first_packet conn (Connect c) d = connect_taken conn c d
   first_packet conn other d = own_unbound_closed conn Reason.rule_no_connect d
 
+  -- of a CONNECT that can't be read no limit is known
+  abbrev pub any_length : ℕ
+  any_length = packet_limit_of []
+
   abbrev pub first_read : ℕ → Result PlainPacket ReadRefused → Draft → Draft
   first_read conn (Ok packet) d = first_packet conn packet d
-  first_read conn (Err Version) d = connect_refused conn Reason.unsupported_version 0 d
-  first_read conn (Err Malformed) d = connect_refused conn Reason.malformed_packet 0 d
-  first_read conn (Err (Protocol rule)) d = connect_refused conn Reason.protocol_error rule d
-  first_read conn (Err Memory) d = connect_refused conn Reason.malformed_packet 0 d
+  first_read conn (Err Version) d = connect_refused any_length conn Reason.unsupported_version 0 d
+  first_read conn (Err (Protocol rule)) d = connect_refused any_length conn Reason.protocol_error rule d
+  first_read conn (Err other) d = connect_refused any_length conn Reason.malformed_packet 0 d
 
   abbrev pub is_connect : List ℕ → Bool
   is_connect [] = false

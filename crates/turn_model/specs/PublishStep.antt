@@ -82,12 +82,12 @@ published_message m p =
       payload = p.payload;
     }
 
--- a publisher's session that is awaited somewhere and isn't live
+-- The publisher's session is among these.
 abbrev pub is_live_session : Sessions → Awaited → Bool
 is_live_session sessions a = list_any (λ (m : PlainSession). bytes_eq m.client a.publisher && (m.incarnation == a.incarnation)) sessions.list
 
 abbrev pub is_owed_forget : Setting → Awaited → Bool
-is_owed_forget s a = (routed_worker a.publisher s.config.workers == s.worker) && not (is_live_session s.sessions a)
+is_owed_forget s a = (routed_worker a.publisher s.config.workers == s.worker) && not (is_live_session s.committed a)
 
 -- each publisher and incarnation once, in the order of the first
 abbrev pub with_first : Awaited → List Awaited → List Awaited
@@ -104,8 +104,8 @@ abbrev pub forgets_in : Setting → Option ShardList → List Op
 forgets_in s None = []
 forgets_in s (Some list) = map forget (take s.profile.forgets (each_once (filter (is_owed_forget s) list.awaited)))
 
--- the Forgets that a group to this shard begins with: of clients of this worker whose sessions are gone, in the order in which they came
--- to be awaited
+-- The Forgets that a group to this shard begins with: of clients of this worker whose sessions are gone, in the order in
+-- which they came to be awaited. An end that is owed and not committed yet waits, as a crash would forget it.
 abbrev pub owed_forgets : Setting → ℕ → List Op
 owed_forgets s shard = if s.profile.forgets_too then forgets_in s (slice_get s.seen shard) else []
 
@@ -186,9 +186,13 @@ abbrev pub with_shard : ℕ → Option StoredMessage → Option (ℕ × StoredMe
 with_shard shard None = None
 with_shard shard (Some w) = Some (shard, w)
 
+-- a publish whose message is in the shard is acknowledged, and its identifier of QoS 2 is held from then on
+abbrev pub stored_publish : PublishFields → Option (ℕ × StoredMessage) → Step
+stored_publish p acked = replying (acked_replies (acknowledgement p Reason.success) acked) (holding p)
+
 abbrev pub repeat_step : Setting → PlainSession → PublishFields → Step
 repeat_step s m p =
-    replying (acked_replies (acknowledgement p Reason.success) (with_shard (shard_for s m) (last_stored m p.id (slice_get s.seen (shard_for s m))))) (holding p)
+    stored_publish p (with_shard (shard_for s m) (last_stored m p.id (slice_get s.seen (shard_for s m))))
 
 abbrev pub refused_publish : PublishFields → ℕ → Step
 refused_publish p reason = replying (plain_replies (acknowledgement p reason)) no_effects
@@ -201,7 +205,7 @@ publish_by_case s k m p Asks = asking (publish_group s m (p ∷ []))
 
 -- by the outcome of the group that it asked for
 abbrev pub publish_by_outcome : PlainConnection → PublishFields → Outcome → Step
-publish_by_outcome k p Kept = replying (plain_replies (acknowledgement p Reason.success)) (holding p)
+publish_by_outcome k p (Kept acked) = stored_publish p acked
 publish_by_outcome k p IsFull = refused_publish p Reason.quota_exceeded
 publish_by_outcome k p AwaitsTooMany = refused_publish p Reason.quota_exceeded
 publish_by_outcome k p Faulted = closing k.number Reason.implementation_error 0
@@ -219,7 +223,7 @@ abbrev pub completion_step : ℕ → ℕ → Step
 completion_step id reason = replying (reply (ack Pubcomp id reason []) ∷ []) (freeing id)
 
 abbrev pub pubrel_by_outcome : PlainConnection → ℕ → Outcome → Step
-pubrel_by_outcome k id Kept = completion_step id Reason.success
+pubrel_by_outcome k id (Kept acked) = completion_step id Reason.success
 pubrel_by_outcome k id other = closing k.number Reason.implementation_error 0
 
 -- a message is released once; any other identifier isn't known (MQTT 3.7.2.1)

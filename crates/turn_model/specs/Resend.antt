@@ -1,5 +1,5 @@
 -- What is sent again on a connection (MQTT 4.4), and what is passed over.
-use Rattle.std.specs.Prelude.{ℕ, zero, suc, ◌+◌, ◌-◌, Bool, true, false, ◌&&◌, not, ◌==◌, nat_lt, if◌then◌else◌, List, [], ◌∷◌, ◌++◌, length, filter, slice_get, Option, Some, None}
+use Rattle.std.specs.Prelude.{ℕ, zero, suc, ◌+◌, ◌-◌, Bool, true, false, ◌&&◌, not, ◌==◌, nat_lt, if◌then◌else◌, List, [], ◌∷◌, ◌++◌, length, map, filter, slice_get, Option, Some, None}
 use Rattle.std.specs.List.{list_any}
 use Rattle.topic_model.specs.Profile.{Profile}
 use Rattle.topic_model.specs.StoredMessage.{StoredMessage}
@@ -75,23 +75,37 @@ again_unless false m limit now lists e = again_with limit now e.kind (version_nu
 abbrev pub again : PlainSession → ℕ → ℕ → List ShardList → Entry → Again
 again m limit now lists e = again_unless (is_released m e) m limit now lists e
 
+-- ---- entries with their packets
+
+-- the packets of entries of which each has one or none
+abbrev pub with_packet : Option PlainPacket → List PlainPacket → List PlainPacket
+with_packet None packets = packets
+with_packet (Some packet) packets = packet ∷ packets
+
+abbrev pub packets_with : List (Entry × Option PlainPacket) → List PlainPacket
+packets_with [] = []
+packets_with (x ∷ xs) = with_packet x.1 (packets_with xs)
+
+abbrev pub entries_with : List (Entry × Option PlainPacket) → List Entry
+entries_with xs = map (λ (x : Entry × Option PlainPacket). x.0) xs
+
 -- ---- a pump that sends again
 
--- as it goes on: whether it has stopped, how many entries it may still take, and the quota; what it took with the packets, and what is
--- left
+-- As it goes on: whether it has stopped, how many entries it may still take, and the quota; what it took, each entry with
+-- its packet, or none where it is passed over; those passed over; and what is left.
 pub record Resent : Type 0 where
   pub stopped : Bool
   pub room : ℕ
   pub quota : ℕ
-  pub taken : List Entry
-  pub packets : List PlainPacket
+  pub taken : List (Entry × Option PlainPacket)
   pub passed : List Entry
   pub rest : List Entry
 
 abbrev pub entry_taken_as : Again → Entry → Resent → Resent
-entry_taken_as (Releases packet) e r = record r { room = r.room - 1; taken = r.taken ++ e ∷ []; packets = r.packets ++ packet ∷ [] }
-entry_taken_as (Publishes packet) e r = record r { room = r.room - 1; quota = r.quota - 1; taken = r.taken ++ e ∷ []; packets = r.packets ++ packet ∷ [] }
-entry_taken_as Passes e r = record r { room = r.room - 1; taken = r.taken ++ e ∷ []; passed = r.passed ++ e ∷ [] }
+entry_taken_as (Releases packet) e r = record r { room = r.room - 1; taken = r.taken ++ (e, Some packet) ∷ [] }
+entry_taken_as (Publishes packet) e r =
+    record r { room = r.room - 1; quota = r.quota - 1; taken = r.taken ++ (e, Some packet) ∷ [] }
+entry_taken_as Passes e r = record r { room = r.room - 1; taken = r.taken ++ (e, None) ∷ []; passed = r.passed ++ e ∷ [] }
 
 -- a PUBLISH for which the quota is 0 stops it
 abbrev pub waits_for_quota : ℕ → Again → Bool
@@ -120,7 +134,7 @@ entries_taken m limit now lists (e ∷ es) r = entries_taken m limit now lists e
 abbrev pub resent : Profile → ℕ → PlainSession → PlainConnection → List ShardList → Resent
 resent profile now m k lists =
     entries_taken m k.packet_limit now lists (rest_of m k)
-    (record { stopped = false; room = batch_of_session profile m; quota = k.quota; taken = []; packets = []; passed = []; rest = [] })
+    (record { stopped = false; room = batch_of_session profile m; quota = k.quota; taken = []; passed = []; rest = [] })
 
 -- the connection after that
 abbrev pub resent_connection : Resent → PlainConnection → PlainConnection
@@ -153,12 +167,16 @@ pass_changes m k =
 
 -- ---- what is put out for a batch
 
-abbrev pub issued_with : ℕ → Kind → Option Version → Option StoredMessage → List PlainPacket
-issued_with now Silent v w = []
-issued_with now kind (Some v) (Some w) = delivery false now v w kind ∷ []
-issued_with now kind v w = []
+abbrev pub issued_with : ℕ → Kind → Option Version → Option StoredMessage → Option PlainPacket
+issued_with now Silent v w = None
+issued_with now kind (Some v) (Some w) = Some (delivery false now v w kind)
+issued_with now kind v w = None
+
+-- each entry with its packet, none for a silent one
+abbrev pub issued_pairs : ℕ → PlainSession → List ShardList → List Entry → List (Entry × Option PlainPacket)
+issued_pairs now m lists [] = []
+issued_pairs now m lists (e ∷ es) =
+    (e, issued_with now e.kind (version_numbered e.version m) (message_for lists e)) ∷ issued_pairs now m lists es
 
 abbrev pub issued_packets : ℕ → PlainSession → List ShardList → List Entry → List PlainPacket
-issued_packets now m lists [] = []
-issued_packets now m lists (e ∷ es) =
-    issued_with now e.kind (version_numbered e.version m) (message_for lists e) ++ issued_packets now m lists es
+issued_packets now m lists es = packets_with (issued_pairs now m lists es)

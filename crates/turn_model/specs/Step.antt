@@ -10,13 +10,14 @@ use Rattle.mqtt_packet.specs.Packet.{PlainPacket}
 use Rattle.turn_model.specs.PlainConnection.{PlainConnection, Effects, no_effects}
 use Rattle.turn_model.specs.Reasons as Reason
 
--- What a worker goes by: the profile and the configuration, its number, its sessions with the number of the next one, its connections,
--- the list that it has seen of each shard, and the moment.
+-- What a worker goes by: the profile and the configuration, its number, its sessions with the number of the next one and
+-- those of them that are committed, its connections, the list that it has seen of each shard, and the moment.
 pub record Setting : Type 0 where
   pub profile : Profile
   pub config : Config
   pub worker : ℕ
   pub sessions : Sessions
+  pub committed : Sessions
   pub connections : List PlainConnection
   pub seen : List ShardList
   pub now : ℕ
@@ -26,9 +27,10 @@ pub record Ask : Type 0 where
   pub shard : ℕ
   pub ops : List Op
 
--- what a shard answered: it stored the group, it is full, it would await too many identifiers, or a device of it failed
+-- what a shard answered: it stored the group, with the message and its shard that stands for a publish of it; it is full,
+-- it would await too many identifiers, or a device of it failed
 pub data Outcome : Type 0 where
-  Kept : Outcome
+  Kept : Option (ℕ × StoredMessage) → Outcome
   IsFull : Outcome
   AwaitsTooMany : Outcome
   Faulted : Outcome

@@ -12,30 +12,33 @@ use Rattle.mqtt_packet.specs.Sizes.{packet_size}
 use Rattle.turn_model.specs.PlainConnection.{PlainConnection, Effects, connection_at, bound_session}
 use Rattle.turn_model.specs.Step.{Setting, Reply}
 
--- What a committed record or a stored group is answered by: the replies to its packets, with what these do to the connection; the CONNACK
--- of a CONNECT, with the client that it names; the packets of a batch, as long as no View came since its record.
+-- What a committed record or a stored group is answered by: the replies to its packets, with what these do to the
+-- connection; the CONNACK of a CONNECT, with the client and the number of the session that it began or bound; the packets
+-- of a batch, at the moment of its record, as long as no View came since.
 pub data Answer : Type 0 where
   Answers : List Reply → Effects → Answer
-  Accepts : ConnectFields → List ℕ → List Reply → Answer
-  Delivers : Issues → Bool → Answer
+  Accepts : ConnectFields → List ℕ → ℕ → List Reply → Answer
+  Delivers : Issues → ℕ → Bool → Answer
 
 pub record Item : Type 0 where
   pub connection : ℕ
   pub answer : Answer
 
--- A record that was begun: what it begins with of the owed changes, its own, and the item that it hands on, none where its connection
--- has ended.
+-- A record that was begun: what it begins with of the owed changes, its own, and the item that it hands on, none where its
+-- connection has ended; and of a CONNECT, whose connection isn't bound yet, the moment at which that has ended.
 pub record PendingRecord : Type 0 where
   pub owed : List Change
   pub changes : List Change
   pub item : Option Item
+  pub left : Option ℕ
 
--- What came of a connection: it was bound, with the entries to be sent again and those passed over; entries were sent again, with their
--- packets; and entries of a batch were delivered.
+-- What came of a connection: it was bound, with the entries to be sent again and those passed over; entries were sent
+-- again, each with its packet, or none where it was passed over; and entries of a batch were delivered, each with its
+-- packet, or none where it is silent.
 pub data Noted : Type 0 where
   Bound : List Entry → List Entry → Noted
-  SentAgain : List Entry → List PlainPacket → Noted
-  Delivered : List Entry → List PlainPacket → Noted
+  SentAgain : List (Entry × Option PlainPacket) → Noted
+  Delivered : List (Entry × Option PlainPacket) → Noted
 
 -- the same with the connection, its client and the number of its session
 pub record Note : Type 0 where
@@ -47,14 +50,16 @@ pub record Note : Type 0 where
 abbrev pub note : PlainConnection → Noted → Note
 note k noted = record { connection = k.number; client = k.client; incarnation = k.incarnation; noted = noted }
 
--- Its number; the committed sessions, and the changes that are owed on top of them; its connections; the list that it has seen of each
--- shard; the record that pends; what no Emit has put out yet; and the history of what was delivered.
+-- Its number; the committed sessions, and the changes that are owed on top of them; its connections; the list that it has
+-- seen of each shard, and the shards that stored a group of its since; the record that pends; what no Emit has put out
+-- yet; and the history of what came of its connections.
 pub record Worker : Type 0 where
   pub number : ℕ
   pub committed : Sessions
   pub owed : List Change
   pub connections : List PlainConnection
   pub seen : List ShardList
+  pub unviewed : List ℕ
   pub pending : Option PendingRecord
   pub due : List Item
   pub history : List Note
@@ -62,7 +67,7 @@ pub record Worker : Type 0 where
 -- a worker that begins, having seen these lists
 abbrev pub opening_worker : ℕ → List ShardList → Worker
 opening_worker number lists =
-    record { number = number; committed = no_sessions; owed = []; connections = []; seen = lists; pending = None; due = []; history = [] }
+    record { number = number; committed = no_sessions; owed = []; connections = []; seen = lists; unviewed = []; pending = None; due = []; history = [] }
 
 -- the sessions that the committed ones and the owed changes give together
 abbrev pub sessions_of : Worker → Sessions
@@ -75,6 +80,7 @@ setting_of profile config now w =
       config = config;
       worker = w.number;
       sessions = sessions_of w;
+      committed = w.committed;
       connections = w.connections;
       seen = w.seen;
       now = now;

@@ -1,22 +1,24 @@
 -- The moves of a worker, and what they put out. A move that isn't allowed changes nothing and puts out nothing.
 use Rattle.std.specs.Prelude.{ℕ, ◌+◌, ◌-◌, Bool, true, false, ◌&&◌, ◌||◌, not, ◌==◌, nat_le, if◌then◌else◌, List, [], ◌∷◌, ◌++◌, length, map, filter, find, take, drop, slice_get, slice_set, Option, Some, None, is_some, is_none}
-use Rattle.std.specs.List.{list_any, list_all}
+use Rattle.std.specs.List.{list_any, flat_map}
 use Rattle.std.specs.Str.{bytes_eq}
 use Rattle.topic_model.specs.Profile.{Profile, Config}
 use Rattle.topic_model.specs.StoredMessage.{StoredMessage}
 use Rattle.shard_model.specs.ShardList.{ShardList}
+use Rattle.session_model.specs.declared.entry.Entry.{Entry}
 use Rattle.session_model.specs.PlainSession.{PlainSession, session_of}
 use Rattle.session_model.specs.Change.{Change, Effect, Began, Bound, Issued, Issues, change}
 use Rattle.session_model.specs.Acting.{act_all, changed_session}
-use Rattle.session_model.specs.Ends.{part_changes, restart_owes}
+use Rattle.session_model.specs.Ends.{restart_owes}
 use Rattle.mqtt_packet.specs.Packet.{PlainPacket, Publish, Ack, Disconnect, ConnectFields}
-use Rattle.turn_model.specs.PlainConnection.{PlainConnection, Effects, no_effects, both_effects, connection_of, bound_connection, without_connection, on_connection, after_packets}
+use Rattle.mqtt_packet.specs.declared.packet.AckKind.TheVariants.{Pubrel}
+use Rattle.turn_model.specs.PlainConnection.{PlainConnection, Effects, rest_of, no_effects, both_effects, connection_of, bound_connection, without_connection, on_connection, after_packets}
 use Rattle.turn_model.specs.Batch.{quota_used}
 use Rattle.turn_model.specs.MayIssue.{may_issue}
-use Rattle.turn_model.specs.Resend.{Resent, resent, resent_connection, with_rest, pass_changes, issued_packets}
-use Rattle.turn_model.specs.Step.{Setting, Outcome, Kept, IsFull, AwaitsTooMany, Faulted, Reply, Step, is_empty, is_settled, owes_nothing}
-use Rattle.turn_model.specs.PublishStep.{acked_replies, acknowledgement, holding, completion_step, with_shard}
-use Rattle.turn_model.specs.ConnectStep.{connect_refusal, connect_step, client_for, takeover_close}
+use Rattle.turn_model.specs.Resend.{Resent, resent, resent_connection, with_rest, pass_changes, packets_with, issued_pairs}
+use Rattle.turn_model.specs.Step.{Setting, Outcome, Kept, IsFull, AwaitsTooMany, Faulted, Reply, Step, idle, is_empty, is_settled, owes_nothing}
+use Rattle.turn_model.specs.PublishStep.{shard_for, stored_publish, completion_step, with_shard}
+use Rattle.turn_model.specs.ConnectStep.{connect_refusal, connect_step, client_for, is_home, session_number, takeover_close}
 use Rattle.turn_model.specs.PacketStep.{packet_step, closed_step, tick_step}
 use Rattle.turn_model.specs.Worker.{Worker, Item, Answer, Answers, Accepts, Delivers, PendingRecord, Note, note, SentAgain, Delivered, Out, Sent, Closed, sessions_of, setting_of, connection_in, session_in, sent_on, sendable, reply_packets, acked_by}
 use Rattle.turn_model.specs.Worker as Worker
@@ -81,8 +83,8 @@ pub data WorkerMove : Type 0 where
 -- what a pump was to put out is no longer fresh
 abbrev pub aged_answer : Answer → Answer
 aged_answer (Answers rs effects) = Answers rs effects
-aged_answer (Accepts c client rs) = Accepts c client rs
-aged_answer (Delivers b fresh) = Delivers b false
+aged_answer (Accepts c client number rs) = Accepts c client number rs
+aged_answer (Delivers b moment fresh) = Delivers b moment false
 
 abbrev pub aged_item : Item → Item
 aged_item i = record i { answer = aged_answer i.answer }
@@ -92,7 +94,50 @@ aged_pending None = None
 aged_pending (Some p) = Some (record p { item = elim (p.item) as (λ i. Option Item) [ None ↦ None | Some i ↦ Some (aged_item i) ] })
 
 abbrev pub with_view : ℕ → ShardList → Worker → Worker
-with_view shard list w = record w { seen = slice_set w.seen shard list; pending = aged_pending w.pending; due = map aged_item w.due }
+with_view shard list w =
+    record w {
+      seen = slice_set w.seen shard list;
+      unviewed = filter (λ (s : ℕ). not (s == shard)) w.unviewed;
+      pending = aged_pending w.pending;
+      due = map aged_item w.due;
+    }
+
+-- ---- who attends a session
+
+-- a CONNECT of this connection that is in and isn't answered
+abbrev pub accepts_on : ℕ → Item → Bool
+accepts_on conn i =
+    (i.connection == conn)
+    && elim (i.answer) as (λ a. Bool) [ Answers rs effects ↦ false | Accepts c client number rs ↦ true | Delivers b moment fresh ↦ false ]
+
+-- one that began or bound the session of this client with this number
+abbrev pub accepts_session : List ℕ → ℕ → Item → Bool
+accepts_session client number i =
+    elim (i.answer) as (λ a. Bool) [
+      | Answers rs effects ↦ false
+      | Accepts c named n rs ↦ bytes_eq named client && (n == number)
+      | Delivers b moment fresh ↦ false
+    ]
+
+-- nothing else is put out on a connection before its CONNACK (MQTT 3.2.0)
+abbrev pub awaits_connack : ℕ → Worker → Bool
+awaits_connack conn w = list_any (accepts_on conn) w.due
+
+-- a connection is bound to this session, or will be: its CONNECT is in
+abbrev pub is_attended : List ℕ → ℕ → Worker → Bool
+is_attended client number w =
+    list_any (λ (k : PlainConnection). bytes_eq k.client client && (k.incarnation == number)) w.connections
+    || list_any (accepts_session client number) w.due
+
+-- a session that nobody attends parts at this moment, as nothing else would say when it ends
+abbrev pub parting_unless : Bool → ℕ → Option PlainSession → Option ℕ → List Change
+parting_unless true now m expiry = []
+parting_unless false now m expiry = (closed_step now m expiry).changes
+
+-- the session with this number that the worker has of a client
+abbrev pub session_at : List ℕ → ℕ → Worker → Option PlainSession
+session_at client number w =
+    find (λ (m : PlainSession). bytes_eq m.client client && (m.incarnation == number)) (sessions_of w).list
 
 -- ---- records
 
@@ -125,56 +170,75 @@ abbrev pub stepped_all : Setting → PlainConnection → List PlainPacket → St
 stepped_all s k [] st = st
 stepped_all s k (packet ∷ packets) st = stepped_all s k packets (stepped_by (packet_step s k st.session packet []) st)
 
--- a record has room for these changes behind all that is owed; those of one packet stay together however many they are
-abbrev pub has_room : Profile → Worker → List Change → Bool
-has_room profile w changes = is_empty w.owed || nat_le (length w.owed + length changes) profile.changes
+-- A record has room for these changes behind all that is owed. Those of one packet stay together however many they are,
+-- where nothing is owed.
+abbrev pub has_room : Profile → Worker → Bool → List Change → Bool
+has_room profile w of_one changes =
+    (of_one && is_empty w.owed) || nat_le (length w.owed + length changes) profile.changes
 
 abbrev pub pending_if : Bool → Worker → List Change → Option Item → Option PendingRecord
-pending_if true w changes item = Some (record { owed = w.owed; changes = changes; item = item })
+pending_if true w changes item = Some (record { owed = w.owed; changes = changes; item = item; left = None })
 pending_if false w changes item = None
 
--- of some changes, where there is room
-abbrev pub pending_of : Profile → Worker → Bool → List Change → Option Item → Option PendingRecord
-pending_of profile w allowed changes item = pending_if (allowed && (not (is_empty changes) && has_room profile w changes)) w changes item
+-- of some changes, of one packet or of several, where there is room
+abbrev pub pending_of : Profile → Worker → Bool → Bool → List Change → Option Item → Option PendingRecord
+pending_of profile w allowed of_one changes item =
+    pending_if (allowed && (not (is_empty changes) && has_room profile w of_one changes)) w changes item
 
 abbrev pub item : ℕ → Answer → Item
 item conn answer = record { connection = conn; answer = answer }
 
 -- packets that ask for no group and don't close
-abbrev pub packets_pending : Profile → Worker → ℕ → Stepped → Option PendingRecord
-packets_pending profile w conn st = pending_of profile w st.settled st.changes (Some (item conn (Answers st.replies st.effects)))
+abbrev pub packets_pending : Profile → Worker → ℕ → Bool → Stepped → Option PendingRecord
+packets_pending profile w conn of_one st =
+    pending_of profile w st.settled of_one st.changes (Some (item conn (Answers st.replies st.effects)))
+
+abbrev pub is_one : {A : Type 0} → List A → Bool
+is_one [] = false
+is_one (x ∷ []) = true
+is_one (x ∷ y ∷ xs) = false
 
 abbrev pub packets_record : Setting → Worker → ℕ → List PlainPacket → Option PlainConnection → Option PlainSession → Option PendingRecord
-packets_record s w conn packets (Some k) (Some m) = packets_pending s.profile w conn (stepped_all s k packets (not_stepped m))
+packets_record s w conn packets (Some k) (Some m) =
+    packets_pending s.profile w conn (is_one packets) (stepped_all s k packets (not_stepped m))
 packets_record s w conn packets k m = None
 
--- a CONNECT that isn't refused, on a connection that isn't bound and has no other one under way
+-- A CONNECT that isn't refused, of a client whose worker this is, on a connection that isn't bound and has no other one
+-- under way.
 abbrev pub has_item : ℕ → List Item → Bool
 has_item conn is = list_any (λ (i : Item). i.connection == conn) is
 
 abbrev pub connect_record : Setting → Worker → ℕ → ConnectFields → Step → Option PendingRecord
 connect_record s w conn c step =
     pending_of s.profile w
-    (is_none (connection_in w conn) && (not (has_item conn w.due) && is_none (connect_refusal s c)))
+    (is_none (connection_in w conn) && (not (has_item conn w.due) && (is_none (connect_refusal s c) && is_home s (client_for s c))))
+    true
     step.changes
-    (Some (item conn (Accepts c (client_for s c) step.replies)))
+    (Some (item conn (Accepts c (client_for s c) (session_number s c) step.replies)))
 
 -- a batch that may be issued, and what was passed over directly above the marks
 abbrev pub issued_change : PlainSession → Option Issues → List Change
 issued_change m None = []
 issued_change m (Some b) = change m.client (Issued b) ∷ []
 
-abbrev pub may_issue_if : Setting → PlainSession → PlainConnection → Option Issues → Bool
-may_issue_if s m k None = true
-may_issue_if s m k (Some b) = may_issue s.profile m k s.now s.seen b
+-- one of this connection is due already
+abbrev pub delivers_on : ℕ → Item → Bool
+delivers_on conn i =
+    (i.connection == conn)
+    && elim (i.answer) as (λ a. Bool) [ Answers rs effects ↦ false | Accepts c client number rs ↦ false | Delivers b moment fresh ↦ true ]
 
-abbrev pub delivering : ℕ → Option Issues → Option Item
-delivering conn None = None
-delivering conn (Some b) = Some (item conn (Delivers b true))
+-- of a connection at most one is under way or due, so that no more goes out than its quota allows, and in order
+abbrev pub may_issue_if : Setting → Worker → PlainSession → PlainConnection → Option Issues → Bool
+may_issue_if s w m k None = true
+may_issue_if s w m k (Some b) = not (list_any (delivers_on k.number) w.due) && may_issue s.profile m k s.now s.seen b
+
+abbrev pub delivering : ℕ → ℕ → Option Issues → Option Item
+delivering conn now None = None
+delivering conn now (Some b) = Some (item conn (Delivers b now true))
 
 abbrev pub pump_record : Setting → Worker → ℕ → Option Issues → Option PlainConnection → Option PlainSession → Option PendingRecord
 pump_record s w conn b (Some k) (Some m) =
-    pending_of s.profile w (may_issue_if s m k b) (issued_change m b ++ pass_changes m k) (delivering conn b)
+    pending_of s.profile w (may_issue_if s w m k b) true (issued_change m b ++ pass_changes m k) (delivering conn s.now b)
 pump_record s w conn b k m = None
 
 -- the sessions that are over end, as many as a record has room for
@@ -185,15 +249,17 @@ tick_record s w (c ∷ changes) =
       owed = take s.profile.changes w.owed;
       changes = take (s.profile.changes - length w.owed) (c ∷ changes);
       item = None;
+      left = None;
     })
 
 abbrev pub owed_record : Profile → Worker → List Change → Option PendingRecord
 owed_record profile w [] = None
-owed_record profile w (c ∷ changes) = Some (record { owed = take profile.changes (c ∷ changes); changes = []; item = None })
+owed_record profile w (c ∷ changes) =
+    Some (record { owed = take profile.changes (c ∷ changes); changes = []; item = None; left = None })
 
 abbrev pub record_of : Setting → Worker → Cause → Option PendingRecord
 record_of s w (OfPackets conn packets) = packets_record s w conn packets (connection_in w conn) (session_in w conn)
-record_of s w (OfConnect conn c) = connect_record s w conn c (connect_step s conn c)
+record_of s w (OfConnect conn c) = connect_record s w conn c (connect_step s c)
 record_of s w (OfPump conn b) = pump_record s w conn b (connection_in w conn) (session_in w conn)
 record_of s w OfTick = tick_record s w (tick_step s.now s.connections s.sessions).changes
 record_of s w OfOwed = owed_record s.profile w w.owed
@@ -232,42 +298,76 @@ abbrev pub handed_on : Option Item → Worker → Worker
 handed_on None w = w
 handed_on (Some i) w = record w { due = w.due ++ i ∷ [] }
 
-abbrev pub record_committed : Option PendingRecord → Worker → Worker
-record_committed None w = w
-record_committed (Some p) w = handed_on p.item (with_record p w)
-
--- a session without a connection parts at this moment, as nothing else would say when it ends
-abbrev pub parting : ℕ → Option PlainConnection → Option PlainSession → List Change
-parting now None (Some m) = part_changes m.client m.expiry now
-parting now k m = []
+-- of these clients, those whose sessions nobody attends
+abbrev pub parting_of : ℕ → Worker → Option PlainSession → List Change
+parting_of now w None = []
+parting_of now w (Some m) = parting_unless (is_attended m.client m.incarnation w) now (Some m) None
 
 abbrev pub partings : ℕ → Worker → List (List ℕ) → List Change
 partings now w [] = []
-partings now w (client ∷ clients) = parting now (connection_of client w.connections) (session_of client w.committed) ++ partings now w clients
+partings now w (client ∷ clients) = parting_of now w (session_of client w.committed) ++ partings now w clients
 
-abbrev pub settled_in : ℕ → PendingRecord → Worker → Worker
-settled_in now p w = record w { owed = w.owed ++ partings now w (bound_by p.changes) }
+abbrev pub partings_owed : Option ℕ → PendingRecord → Worker → Worker
+partings_owed None p w = w
+partings_owed (Some moment) p w = record w { owed = w.owed ++ partings moment w (bound_by p.changes) }
 
-abbrev pub record_settled : Bool → ℕ → Option PendingRecord → Worker → Worker
-record_settled goes_in now None w = w
-record_settled true now (Some p) w = settled_in now p (with_record p w)
-record_settled false now (Some p) w = record w { pending = None }
+-- It hands its item on; and where a CONNECT's connection has ended meanwhile, its session parts at that moment.
+abbrev pub record_committed : Option PendingRecord → Worker → Worker
+record_committed None w = w
+record_committed (Some p) w = handed_on p.item (partings_owed p.left p (with_record p w))
+
+abbrev pub moment_left : ℕ → Option ℕ → Option ℕ
+moment_left now None = Some now
+moment_left now (Some moment) = Some moment
+
+-- What is found to be in hands nothing on, and the sessions that it bound part where nobody attends them.
+abbrev pub record_resolved : Bool → ℕ → Option PendingRecord → Worker → Worker
+record_resolved goes_in now None w = w
+record_resolved true now (Some p) w = partings_owed (moment_left now p.left) p (with_record p w)
+record_resolved false now (Some p) w = record w { pending = None }
+
+-- a record is settled where its connection isn't bound any more: else what it issued would be delivered by nobody
+abbrev pub is_item_bound : Worker → Option Item → Bool
+is_item_bound w None = false
+is_item_bound w (Some i) = is_some (connection_in w i.connection)
+
+abbrev pub may_settle : Worker → Option PendingRecord → Bool
+may_settle w None = false
+may_settle w (Some p) = not (is_item_bound w p.item)
+
+abbrev pub record_settled : Bool → Bool → ℕ → Worker → Worker
+record_settled true goes_in now w = record_resolved goes_in now w.pending w
+record_settled false goes_in now w = w
 
 -- ---- a group that is in
 
-abbrev pub stored_replies : ℕ → List PlainPacket → List (Option StoredMessage) → List Reply
-stored_replies shard [] messages = []
-stored_replies shard (Publish p ∷ packets) (message ∷ messages) =
-    acked_replies (acknowledgement p Reason.success) (with_shard shard message) ++ stored_replies shard packets messages
-stored_replies shard (Publish p ∷ packets) [] = stored_replies shard packets []
-stored_replies shard (Ack kind a ∷ packets) messages = (completion_step a.id Reason.success).replies ++ stored_replies shard packets messages
-stored_replies shard (other ∷ packets) messages = stored_replies shard packets messages
+-- what a packet is answered and does whose group was stored, with the message that stands for a publish
+abbrev pub stored_step : PlainPacket → Option (ℕ × StoredMessage) → Step
+stored_step (Publish p) acked = stored_publish p acked
+stored_step (Ack kind a) acked = completion_step a.id Reason.success
+stored_step other acked = idle
 
-abbrev pub stored_effects : List PlainPacket → Effects
-stored_effects [] = no_effects
-stored_effects (Publish p ∷ packets) = both_effects (holding p) (stored_effects packets)
-stored_effects (Ack kind a ∷ packets) = both_effects (completion_step a.id Reason.success).effects (stored_effects packets)
-stored_effects (other ∷ packets) = stored_effects packets
+abbrev pub is_publish_packet : PlainPacket → Bool
+is_publish_packet (Publish p) = true
+is_publish_packet other = false
+
+abbrev pub first_message : List (Option StoredMessage) → Option StoredMessage
+first_message [] = None
+first_message (message ∷ messages) = message
+
+-- the packets in order, each publish with its message
+abbrev pub stored_steps : ℕ → List PlainPacket → List (Option StoredMessage) → List Step
+stored_steps shard [] messages = []
+stored_steps shard (packet ∷ packets) messages =
+    stored_step packet (with_shard shard (first_message messages))
+    ∷ stored_steps shard packets (if is_publish_packet packet then drop 1 messages else messages)
+
+abbrev pub all_effects : List Step → Effects
+all_effects [] = no_effects
+all_effects (step ∷ steps) = both_effects step.effects (all_effects steps)
+
+abbrev pub stored_answer : List Step → Answer
+stored_answer steps = Answers (flat_map (λ (step : Step). step.replies) steps) (all_effects steps)
 
 -- its client has the connection still
 abbrev pub has_asked : Asker → Option PlainConnection → Bool
@@ -276,40 +376,48 @@ has_asked a (Some k) = bytes_eq k.client a.client && (k.incarnation == a.incarna
 
 abbrev pub stored_if : Bool → ℕ → Asker → List (Option StoredMessage) → Worker → Worker
 stored_if true shard a messages w =
-    handed_on (Some (item a.connection (Answers (stored_replies shard a.packets messages) (stored_effects a.packets)))) w
+    handed_on (Some (item a.connection (stored_answer (stored_steps shard a.packets messages))))
+    (record w { unviewed = w.unviewed ++ shard ∷ [] })
 stored_if false shard a messages w = w
 
 -- ---- Emit
 
 abbrev pub is_fresh : Answer → Bool
-is_fresh (Delivers b fresh) = fresh
+is_fresh (Delivers b moment fresh) = fresh
 is_fresh other = true
 
--- an item whose connection is bound and, of a pump, since whose record no View came
+-- nothing but its CONNACK comes first on a connection
+abbrev pub is_in_turn : Worker → Item → Bool
+is_in_turn w i = accepts_on i.connection i || not (awaits_connack i.connection w)
+
+-- an item whose connection is bound, in its turn and, of a pump, since whose record no View came
 abbrev pub item_if : Worker → Option Item → Option Item
 item_if w None = None
-item_if w (Some i) = if is_some (connection_in w i.connection) && is_fresh i.answer then Some i else None
+item_if w (Some i) =
+    if is_some (connection_in w i.connection) && (is_fresh i.answer && is_in_turn w i) then Some i else None
 
 abbrev pub item_at : Worker → ℕ → Option Item
 item_at w place = item_if w (slice_get w.due place)
 
-abbrev pub batch_packets : ℕ → Worker → Issues → Option PlainSession → List PlainPacket
-batch_packets now w b None = []
-batch_packets now w b (Some m) = issued_packets now m w.seen b.entries
+abbrev pub batch_pairs : ℕ → Worker → Issues → Option PlainSession → List (Entry × Option PlainPacket)
+batch_pairs moment w b None = []
+batch_pairs moment w b (Some m) = issued_pairs moment m w.seen b.entries
 
-abbrev pub answer_packets : ℕ → Worker → PlainConnection → Answer → List PlainPacket
-answer_packets now w k (Answers rs effects) = reply_packets (sendable k.packet_limit rs)
-answer_packets now w k (Accepts c client rs) = reply_packets (sendable k.packet_limit rs)
-answer_packets now w k (Delivers b fresh) = batch_packets now w b (session_in w k.number)
+-- the packets of a batch are those of the moment of its record
+abbrev pub answer_packets : Worker → PlainConnection → Answer → List PlainPacket
+answer_packets w k (Answers rs effects) = reply_packets (sendable k.packet_limit rs)
+answer_packets w k (Accepts c client number rs) = reply_packets (sendable k.packet_limit rs)
+answer_packets w k (Delivers b moment fresh) = packets_with (batch_pairs moment w b (session_in w k.number))
 
 abbrev pub after_answer : ℕ → Answer → PlainConnection → PlainConnection
 after_answer now (Answers rs effects) k = after_packets effects now k
-after_answer now (Accepts c client rs) k = k
-after_answer now (Delivers b fresh) k = record k { quota = k.quota - quota_used b.entries; served = Some (b.subscription, b.shard) }
+after_answer now (Accepts c client number rs) k = k
+after_answer now (Delivers b moment fresh) k =
+    record k { quota = k.quota - quota_used b.entries; served = Some (b.subscription, b.shard) }
 
-abbrev pub noted_answer : ℕ → Worker → PlainConnection → Answer → List Note
-noted_answer now w k (Delivers b fresh) = note k (Delivered b.entries (batch_packets now w b (session_in w k.number))) ∷ []
-noted_answer now w k other = []
+abbrev pub noted_answer : Worker → PlainConnection → Answer → List Note
+noted_answer w k (Delivers b moment fresh) = note k (Delivered (batch_pairs moment w b (session_in w k.number))) ∷ []
+noted_answer w k other = []
 
 abbrev pub without_item : ℕ → List Item → List Item
 without_item place is = take place is ++ drop (place + 1) is
@@ -320,55 +428,85 @@ item_emitted place now i (Some k) w =
     record w {
       due = without_item place w.due;
       connections = on_connection k.number (after_answer now i.answer) w.connections;
-      history = w.history ++ noted_answer now w k i.answer;
+      history = w.history ++ noted_answer w k i.answer;
     }
 
 abbrev pub emitted_if : ℕ → ℕ → Option Item → Worker → Worker
 emitted_if place now None w = w
 emitted_if place now (Some i) w = item_emitted place now i (connection_in w i.connection) w
 
--- a packet that owes nothing: its group was refused, or it asked for none
+-- a refused group answers a packet that asks for one
 abbrev pub is_refusal : Outcome → Bool
 is_refusal IsFull = true
 is_refusal AwaitsTooMany = true
-is_refusal Kept = false
+is_refusal (Kept acked) = false
 is_refusal Faulted = false
+
+abbrev pub may_answer : Step → List Outcome → Bool
+may_answer step [] = true
+may_answer step (outcome ∷ []) = is_refusal outcome && not (is_empty step.groups)
+may_answer step (outcome ∷ other ∷ outcomes) = false
+
+-- PUBLISH and PUBREL go by what their shard is seen to await: by a view that came since the shard stored a group of this
+-- worker, as else an identifier that was released would still seem awaited
+abbrev pub looks_at_shard : PlainPacket → Bool
+looks_at_shard (Publish p) = true
+looks_at_shard (Ack Pubrel a) = true
+looks_at_shard other = false
+
+abbrev pub has_view : Setting → Worker → PlainSession → Bool
+has_view s w m = not (list_any (λ (shard : ℕ). shard == shard_for s m) w.unviewed)
+
+abbrev pub has_view_for : Setting → Worker → PlainSession → PlainPacket → Bool
+has_view_for s w m packet = not (looks_at_shard packet) || has_view s w m
 
 abbrev pub step_if : Bool → Step → Option Step
 step_if true step = Some step
 step_if false step = None
 
-abbrev pub answered_step : Setting → PlainPacket → List Outcome → Option PlainConnection → Option PlainSession → Option Step
-answered_step s packet outcomes (Some k) (Some m) =
-    step_if (list_all is_refusal outcomes && owes_nothing (packet_step s k m packet outcomes)) (packet_step s k m packet outcomes)
-answered_step s packet outcomes k m = None
+-- what answers a packet that owes nothing: it asked for no group, or that was refused
+abbrev pub answered_step : Setting → Worker → PlainPacket → List Outcome → Option PlainConnection → Option PlainSession → Option Step
+answered_step s w packet outcomes (Some k) (Some m) =
+    step_if
+    (has_view_for s w m packet
+    && (not (awaits_connack k.number w)
+    && (may_answer (packet_step s k m packet []) outcomes && owes_nothing (packet_step s k m packet outcomes))))
+    (packet_step s k m packet outcomes)
+answered_step s w packet outcomes k m = None
 
 abbrev pub step_emitted : ℕ → ℕ → Option Step → Worker → Worker
 step_emitted conn now None w = w
 step_emitted conn now (Some step) w = record w { connections = on_connection conn (after_packets step.effects now) w.connections }
 
+abbrev pub resent_if : Bool → Resent → Option Resent
+resent_if true r = Some r
+resent_if false r = None
+
+-- where some is left
 abbrev pub resent_for : Profile → ℕ → Worker → Option PlainConnection → Option PlainSession → Option Resent
-resent_for profile now w (Some k) (Some m) = Some (resent profile now m k w.seen)
+resent_for profile now w (Some k) (Some m) =
+    resent_if (not (is_empty (rest_of m k)) && not (awaits_connack k.number w)) (resent profile now m k w.seen)
 resent_for profile now w k m = None
 
 abbrev pub resend_emitted : ℕ → Option PlainConnection → Option Resent → Worker → Worker
 resend_emitted conn (Some k) (Some r) w =
     record w {
       connections = on_connection conn (resent_connection r) w.connections;
-      history = w.history ++ note k (SentAgain r.taken r.packets) ∷ [];
+      history = w.history ++ note k (SentAgain r.taken) ∷ [];
     }
 resend_emitted conn k r w = w
 
 -- ---- Bind, TakeOver and Unbind
 
--- a CONNECT of this connection that is in and isn't answered
-abbrev pub accepts_on : ℕ → Item → Bool
-accepts_on conn i = (i.connection == conn) && elim (i.answer) as (λ a. Bool) [ Answers rs effects ↦ false | Accepts c client rs ↦ true | Delivers b fresh ↦ false ]
-
--- one of this client, of another connection
-abbrev pub accepts_client : List ℕ → ℕ → Item → Bool
-accepts_client client conn i =
-    not (i.connection == conn) && elim (i.answer) as (λ a. Bool) [ Answers rs effects ↦ false | Accepts c named rs ↦ bytes_eq named client | Delivers b fresh ↦ false ]
+-- one of this client, of another connection, whose session is there
+abbrev pub takes_over : Worker → List ℕ → ℕ → Item → Bool
+takes_over w client conn i =
+    not (i.connection == conn)
+    && elim (i.answer) as (λ a. Bool) [
+      | Answers rs effects ↦ false
+      | Accepts c named number rs ↦ bytes_eq named client && is_some (session_at named number w)
+      | Delivers b moment fresh ↦ false
+    ]
 
 abbrev pub bound_with : ℕ → ConnectFields → ℕ → Option PlainConnection → Option PlainSession → Worker → Worker
 bound_with conn c now None (Some m) w =
@@ -377,43 +515,78 @@ bound_with conn c now None (Some m) w =
 bound_with conn c now k m w = w
 
 abbrev pub bound_answer : ℕ → ℕ → Answer → Worker → Worker
-bound_answer conn now (Accepts c client rs) w = bound_with conn c now (connection_of client w.connections) (session_of client (sessions_of w)) w
+bound_answer conn now (Accepts c client number rs) w =
+    bound_with conn c now (connection_of client w.connections) (session_at client number w) w
 bound_answer conn now other w = w
 
--- where the connection isn't bound, nor is its client on another one
-abbrev pub bound_if : ℕ → ℕ → Option Item → Option PlainConnection → Worker → Worker
-bound_if conn now (Some i) None w = bound_answer conn now i.answer w
-bound_if conn now i k w = w
+-- Where nothing pends, the connection isn't bound, nor is its client on another one, and to the session that its CONNECT
+-- began or bound, to no other.
+abbrev pub bound_if : ℕ → ℕ → Option PendingRecord → Option Item → Option PlainConnection → Worker → Worker
+bound_if conn now None (Some i) None w = bound_answer conn now i.answer w
+bound_if conn now p i k w = w
+
+abbrev pub pending_item : Option PendingRecord → List Item
+pending_item None = []
+pending_item (Some p) = elim (p.item) as (λ i. List Item) [ None ↦ [] | Some i ↦ i ∷ [] ]
 
 -- an item of another connection
 abbrev pub kept_item : ℕ → Option Item → Option Item
 kept_item conn None = None
 kept_item conn (Some i) = if i.connection == conn then None else Some i
 
-abbrev pub kept_pending : ℕ → Option PendingRecord → Option PendingRecord
-kept_pending conn None = None
-kept_pending conn (Some p) = Some (record p { item = kept_item conn p.item })
+abbrev pub left_at : ℕ → ℕ → Option Item → Option ℕ → Option ℕ
+left_at conn now None left = left
+left_at conn now (Some i) left = if accepts_on conn i then Some now else left
+
+abbrev pub kept_pending : ℕ → ℕ → Option PendingRecord → Option PendingRecord
+kept_pending conn now None = None
+kept_pending conn now (Some p) =
+    Some (record p { item = kept_item conn p.item; left = left_at conn now p.item p.left })
 
 -- the end of a connection drops its items, that of the record that pends too
-abbrev pub without_items : ℕ → Worker → Worker
-without_items conn w =
-    record w { due = filter (λ (i : Item). not (i.connection == conn)) w.due; pending = kept_pending conn w.pending }
+abbrev pub without_items : ℕ → ℕ → Worker → Worker
+without_items conn now w =
+    record w { due = filter (λ (i : Item). not (i.connection == conn)) w.due; pending = kept_pending conn now w.pending }
 
-abbrev pub without_bound : ℕ → Worker → Worker
-without_bound conn w = without_items conn (record w { connections = without_connection conn w.connections })
+abbrev pub without_bound : ℕ → ℕ → Worker → Worker
+without_bound conn now w = without_items conn now (record w { connections = without_connection conn w.connections })
 
--- the session that it was bound to is owed its end
+-- The session of a connection that ends parts, unless another connection is bound to it or will be: a takeover owes
+-- nothing, by whatever move the old connection goes.
+abbrev pub owed_by_end : List ℕ → ℕ → ℕ → Option PlainSession → Option ℕ → Worker → Worker
+owed_by_end client number now m expiry w =
+    record w { owed = w.owed ++ parting_unless (is_attended client number w) now m expiry }
+
+-- the CONNECT that is in, of a connection that isn't bound
+abbrev pub accept_dropped : ℕ → ℕ → Option Item → Worker → Worker
+accept_dropped conn now None w = without_items conn now w
+accept_dropped conn now (Some i) w =
+    elim (i.answer) as (λ a. Worker) [
+      | Answers rs effects ↦ without_items conn now w
+      | Accepts c client number rs ↦ owed_by_end client number now (session_at client number w) None (without_items conn now w)
+      | Delivers b moment fresh ↦ without_items conn now w
+    ]
+
+-- a connection that isn't bound and has a CONNECT under way
+abbrev pub has_connect : ℕ → Worker → Bool
+has_connect conn w = awaits_connack conn w || list_any (accepts_on conn) (pending_item w.pending)
+
+abbrev pub unbound_if : Bool → ℕ → ℕ → Worker → Worker
+unbound_if true conn now w = accept_dropped conn now (find (accepts_on conn) w.due) w
+unbound_if false conn now w = w
+
 abbrev pub unbound_from : ℕ → Ending → ℕ → Option PlainConnection → Worker → Worker
-unbound_from conn ending now None w = w
-unbound_from conn ending now (Some k) w = record (without_bound conn w) { owed = w.owed ++ (closed_step now (session_in w conn) ending.expiry).changes }
+unbound_from conn ending now None w = unbound_if (has_connect conn w) conn now w
+unbound_from conn ending now (Some k) w =
+    owed_by_end k.client k.incarnation now (session_in w conn) ending.expiry (without_bound conn now w)
+
+abbrev pub may_take_over : Worker → ℕ → Option PlainConnection → Bool
+may_take_over w conn None = false
+may_take_over w conn (Some k) = list_any (takes_over w k.client conn) w.due
 
 -- a takeover owes nothing: the client goes on with another connection
-abbrev pub may_take_over : ℕ → List Item → Option PlainConnection → Bool
-may_take_over conn is None = false
-may_take_over conn is (Some k) = list_any (accepts_client k.client conn) is
-
 abbrev pub taken_over_if : Bool → ℕ → Worker → Worker
-taken_over_if true conn w = without_bound conn w
+taken_over_if true conn w = without_bound conn 0 w
 taken_over_if false conn w = w
 
 -- ---- the moves
@@ -423,25 +596,25 @@ module _ (profile : Profile) (config : Config) where
   worker_step w (View shard list) = with_view shard list w
   worker_step w (BeginCommit cause now) = begun_unless w.pending (record_of (setting_of profile config now w) w cause) w
   worker_step w Commit = record_committed w.pending w
-  worker_step w (Settle goes_in now) = record_settled goes_in now w.pending w
+  worker_step w (Settle goes_in now) = record_settled (may_settle w w.pending) goes_in now w
   worker_step w (Stored shard a messages) = stored_if (has_asked a (connection_in w a.connection)) shard a messages w
   worker_step w (Emit (OfItem place) now) = emitted_if place now (item_at w place) w
   worker_step w (Emit (OfPacket conn packet outcomes) now) =
-      step_emitted conn now (answered_step (setting_of profile config now w) packet outcomes (connection_in w conn) (session_in w conn)) w
+      step_emitted conn now (answered_step (setting_of profile config now w) w packet outcomes (connection_in w conn) (session_in w conn)) w
   worker_step w (Emit (OfResend conn) now) = resend_emitted conn (connection_in w conn) (resent_for profile now w (connection_in w conn) (session_in w conn)) w
-  worker_step w (Bind conn now) = bound_if conn now (find (accepts_on conn) w.due) (connection_in w conn) w
-  worker_step w (TakeOver conn) = taken_over_if (may_take_over conn w.due (connection_in w conn)) conn w
+  worker_step w (Bind conn now) = bound_if conn now w.pending (find (accepts_on conn) w.due) (connection_in w conn) w
+  worker_step w (TakeOver conn) = taken_over_if (may_take_over w conn (connection_in w conn)) conn w
   worker_step w (Unbind conn ending now) = unbound_from conn ending now (connection_in w conn) w
 
   -- ---- what they put out
 
-  abbrev pub item_outs : ℕ → Worker → Item → Option PlainConnection → List Out
-  item_outs now w i None = []
-  item_outs now w i (Some k) = sent_on k.number (answer_packets now w k i.answer)
+  abbrev pub item_outs : Worker → Item → Option PlainConnection → List Out
+  item_outs w i None = []
+  item_outs w i (Some k) = sent_on k.number (answer_packets w k i.answer)
 
-  abbrev pub emitted_outs : ℕ → Worker → Option Item → List Out
-  emitted_outs now w None = []
-  emitted_outs now w (Some i) = item_outs now w i (connection_in w i.connection)
+  abbrev pub emitted_outs : Worker → Option Item → List Out
+  emitted_outs w None = []
+  emitted_outs w (Some i) = item_outs w i (connection_in w i.connection)
 
   abbrev pub step_outs : Option PlainConnection → Option Step → List Out
   step_outs (Some k) (Some step) = sent_on k.number (reply_packets (sendable k.packet_limit step.replies))
@@ -449,7 +622,7 @@ module _ (profile : Profile) (config : Config) where
 
   abbrev pub resend_outs : ℕ → Option Resent → List Out
   resend_outs conn None = []
-  resend_outs conn (Some r) = sent_on conn r.packets
+  resend_outs conn (Some r) = sent_on conn (packets_with r.taken)
 
   abbrev pub disconnect : ℕ → PlainPacket
   disconnect reason = Disconnect (record { reason = reason; props = [] })
@@ -458,21 +631,30 @@ module _ (profile : Profile) (config : Config) where
   disconnect_outs conn None = []
   disconnect_outs conn (Some reason) = Sent conn (disconnect reason) ∷ []
 
-  abbrev pub ending_outs : ℕ → Ending → Option PlainConnection → List Out
-  ending_outs conn ending None = []
-  ending_outs conn ending (Some k) = disconnect_outs conn ending.reason ++ (if ending.by_server then Closed conn ∷ [] else [])
+  -- before its CONNACK a connection is told nothing
+  abbrev pub farewell : Bool → ℕ → Option ℕ → List Out
+  farewell true conn reason = []
+  farewell false conn reason = disconnect_outs conn reason
 
-  abbrev pub takeover_outs : Bool → ℕ → List Out
-  takeover_outs true conn = disconnect_outs conn (takeover_close conn).reason ++ Closed conn ∷ []
-  takeover_outs false conn = []
+  abbrev pub close_outs : ℕ → Bool → List Out
+  close_outs conn true = Closed conn ∷ []
+  close_outs conn false = []
+
+  abbrev pub ending_outs : ℕ → Ending → Worker → Option PlainConnection → List Out
+  ending_outs conn ending w None = close_outs conn (ending.by_server && has_connect conn w)
+  ending_outs conn ending w (Some k) = farewell (awaits_connack conn w) conn ending.reason ++ close_outs conn ending.by_server
+
+  abbrev pub takeover_outs : Bool → ℕ → Worker → List Out
+  takeover_outs true conn w = farewell (awaits_connack conn w) conn (takeover_close conn).reason ++ Closed conn ∷ []
+  takeover_outs false conn w = []
 
   abbrev pub worker_outs : Worker → WorkerMove → List Out
-  worker_outs w (Emit (OfItem place) now) = emitted_outs now w (item_at w place)
+  worker_outs w (Emit (OfItem place) now) = emitted_outs w (item_at w place)
   worker_outs w (Emit (OfPacket conn packet outcomes) now) =
-      step_outs (connection_in w conn) (answered_step (setting_of profile config now w) packet outcomes (connection_in w conn) (session_in w conn))
+      step_outs (connection_in w conn) (answered_step (setting_of profile config now w) w packet outcomes (connection_in w conn) (session_in w conn))
   worker_outs w (Emit (OfResend conn) now) = resend_outs conn (resent_for profile now w (connection_in w conn) (session_in w conn))
-  worker_outs w (TakeOver conn) = takeover_outs (may_take_over conn w.due (connection_in w conn)) conn
-  worker_outs w (Unbind conn ending now) = ending_outs conn ending (connection_in w conn)
+  worker_outs w (TakeOver conn) = takeover_outs (may_take_over w conn (connection_in w conn)) conn w
+  worker_outs w (Unbind conn ending now) = ending_outs conn ending w (connection_in w conn)
   worker_outs w other = []
 
   -- ---- the messages that they acknowledge, each with its shard
@@ -496,7 +678,7 @@ module _ (profile : Profile) (config : Config) where
   abbrev pub worker_acks : Worker → WorkerMove → List (ℕ × StoredMessage)
   worker_acks w (Emit (OfItem place) now) = emitted_acks w (item_at w place)
   worker_acks w (Emit (OfPacket conn packet outcomes) now) =
-      step_acks (connection_in w conn) (answered_step (setting_of profile config now w) packet outcomes (connection_in w conn) (session_in w conn))
+      step_acks (connection_in w conn) (answered_step (setting_of profile config now w) w packet outcomes (connection_in w conn) (session_in w conn))
   worker_acks w other = []
 
 -- ---- a crash
@@ -504,7 +686,7 @@ module _ (profile : Profile) (config : Config) where
 -- No connections, the lists as they are stored, and what a restart owes; of what pended nothing is handed on.
 abbrev pub restarted_worker : List ShardList → ℕ → Worker → Worker
 restarted_worker lists now w =
-    record w { owed = restart_owes now w.committed; connections = []; seen = lists; pending = None; due = [] }
+    record w { owed = restart_owes now w.committed; connections = []; seen = lists; unviewed = []; pending = None; due = [] }
 
 abbrev pub crashed_worker : List ShardList → ℕ → Bool → Worker → Worker
-crashed_worker lists now goes_in w = restarted_worker lists now (record_settled goes_in now w.pending w)
+crashed_worker lists now goes_in w = restarted_worker lists now (record_resolved goes_in now w.pending w)

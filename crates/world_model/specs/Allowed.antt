@@ -7,20 +7,15 @@ use Rattle.shard_model.specs.AllowedMoves.{shard_allows}
 use Rattle.mqtt_packet.specs.Packet.{PlainPacket}
 use Rattle.turn_model.specs.Step.{Ask}
 use Rattle.turn_model.specs.Worker.{Worker, setting_of, connection_in, session_in}
-use Rattle.turn_model.specs.WorkerMoves.{WorkerMove, Asker}
+use Rattle.turn_model.specs.WorkerMoves.{Asker}
 use Rattle.turn_model.specs.WorkerMoves as Workers
-use Rattle.turn_model.specs.Allowed.{worker_allows}
-use Rattle.world_model.specs.World.{World, WorldShard, Move, Begin, Store, BeginRotate, Rotate, BeginDrop, Drop, SettleShard, Show, View, BeginCommit, Commit, SettleJournal, Emit, Bind, TakeOver, Unbind, Crash, ask_with, asker_with}
+use Rattle.world_model.specs.World.{World, WorldShard, Move, Begin, Store, BeginRotate, Rotate, BeginDrop, Drop, SettleShard, Show, View, BeginCommit, Commit, SettleJournal, Emit, Bind, TakeOver, Unbind, Crash, ask_with, asker_with, allows_worker}
 
 module _ (profile : Profile) (config : Config) where
-  -- of a shard, or a worker, that is there
+  -- of a shard that is there
   abbrev pub allows_shard : ShardMove → Option WorldShard → Bool
   allows_shard move None = false
   allows_shard move (Some s) = shard_allows profile config s.shard move
-
-  abbrev pub allows_worker : WorkerMove → Option Worker → Bool
-  allows_worker move None = false
-  allows_worker move (Some w) = worker_allows profile config w move
 
   -- packets of a bound connection that ask for a group of this shard, which may be begun there
   abbrev pub allows_group : ℕ → ℕ → Option Ask → Option Asker → Option WorldShard → Bool
@@ -31,7 +26,7 @@ module _ (profile : Profile) (config : Config) where
   allows_begin shard conn packets now None s = false
   allows_begin shard conn packets now (Some w) s =
       allows_group shard now
-      (ask_with (setting_of profile config now w) packets (connection_in w conn) (session_in w conn))
+      (ask_with (setting_of profile config now w) w packets (connection_in w conn) (session_in w conn))
       (asker_with w.number conn packets (session_in w conn)) s
 
 -- A View and a Crash always are; each other one where its shard, or its worker, allows it.

@@ -107,7 +107,7 @@ abbrev pub connection_or_zero : Todo → ℕ
 connection_or_zero todo = elim (todo.connection) as (λ c. ℕ) [ None ↦ 0 | Some conn ↦ conn ]
 
 abbrev pub outcome_of : Appended → Outcome
-outcome_of (AppendedAt first next) = Kept
+outcome_of (AppendedAt first next) = Kept None
 outcome_of Full = IsFull
 outcome_of AwaitFull = AwaitsTooMany
 outcome_of AppendFault = Faulted
@@ -283,6 +283,37 @@ abbrev pub choose_workers : List Worker → Crashing → Crashing
 choose_workers [] c = c
 choose_workers (w ∷ ws) c = choose_workers ws (choice_made (is_some w.pending) c)
 
+-- ---- the mount behind a crash
+
+-- as it goes on: whether it has met a failure, the choices that are left, and the failures still to come of those gone by
+pub record Mounting : Type 0 where
+  pub met : Bool
+  pub choices : List Choice
+  pub left : List ℕ
+
+abbrev pub mounted_with : Drawn → Mounting → Mounting
+mounted_with drawn m =
+    record { met = drawn.fails; choices = drawn.fates.choices; left = m.left ++ drawn.fates.armed ∷ [] }
+
+abbrev pub mounted_if : Bool → ℕ → Mounting → Mounting
+mounted_if true armed m = mounted_with (draw (record { choices = m.choices; armed = armed })) m
+mounted_if false armed m = record m { left = m.left ++ armed ∷ [] }
+
+-- these shards, or journals, in order
+abbrev pub mount_each : List ℕ → Mounting → Mounting
+mount_each [] m = m
+mount_each (armed ∷ more) m = mount_each more (mounted_if (not m.met && nat_lt 0 armed) armed m)
+
+abbrev pub with_mounting : List ℕ → Mounting → Chances
+with_mounting shards m = record { choices = m.choices; shards = shards; journals = m.left }
+
+abbrev pub mounted_shards : Mounting → Chances → Chances
+mounted_shards m c = with_mounting m.left (mount_each c.journals (record m { left = [] }))
+
+-- A mount may meet one failure that is still to come: it is used up, and no later call meets it. Then mounting begins anew.
+abbrev pub after_mount : Chances → Chances
+after_mount c = mounted_shards (mount_each c.shards (record { met = false; choices = c.choices; left = [] })) c
+
 -- ---- texts
 
 abbrev pub text_of_printed : List (List ℕ) → List ℕ → List ℕ
@@ -421,7 +452,7 @@ module _ (profile : Profile) where
         world = Moves.world_step profile s.world (Moves.Crash (moment_of s.clock) of_shards c.choices);
         besides = map (λ (b : Beside). record { readings = []; last = moment_of s.clock }) s.besides;
         lobby = [];
-        chances = c.chances;
+        chances = after_mount c.chances;
         owing = [];
         printed = ended_line (codes "after_crash") ∷ s.printed;
       }

@@ -1,10 +1,10 @@
 -- The world: all shards and all workers, and the messages that were acknowledged; and its moves. A move that isn't allowed changes nothing
 -- and puts out nothing.
-use Rattle.std.specs.Prelude.{ℕ, zero, suc, ◌+◌, Bool, true, false, ◌&&◌, ◌==◌, if◌then◌else◌, List, [], ◌∷◌, ◌++◌, map, replicate, slice_get, Option, Some, None}
+use Rattle.std.specs.Prelude.{ℕ, zero, suc, ◌+◌, Bool, true, false, ◌&&◌, ◌==◌, if◌then◌else◌, List, [], ◌∷◌, ◌++◌, length, drop, map, replicate, slice_get, Option, Some, None}
 use Rattle.topic_model.specs.Profile.{Profile, Config}
 use Rattle.topic_model.specs.StoredMessage.{StoredMessage}
 use Rattle.shard_model.specs.ShardList.{ShardList, opening_list}
-use Rattle.shard_model.specs.Storing.{Op}
+use Rattle.shard_model.specs.Storing.{Op, store}
 use Rattle.shard_model.specs.ShardMoves.{Shard, ShardMove, PendingChange, Nothing, AGroup, pends_nothing, if_group, opening_shard, shard_step, crashed_shard}
 use Rattle.shard_model.specs.ShardMoves as Shards
 use Rattle.shard_model.specs.SweepOrder.{counted_from}
@@ -15,13 +15,15 @@ use Rattle.turn_model.specs.PlainConnection.{PlainConnection}
 use Rattle.turn_model.specs.Step.{Setting, Ask}
 use Rattle.turn_model.specs.PublishStep.{are_group, publish_group, release_group, is_awaited, stored_messages}
 use Rattle.turn_model.specs.Worker.{Worker, Out, opening_worker, setting_of, connection_in, session_in}
-use Rattle.turn_model.specs.WorkerMoves.{WorkerMove, Asker, Cause, Emitted, Ending, worker_step, worker_outs, worker_acks, crashed_worker}
+use Rattle.turn_model.specs.WorkerMoves.{WorkerMove, Asker, Cause, Emitted, Ending, worker_step, worker_outs, worker_acks, has_view, crashed_worker}
 use Rattle.turn_model.specs.WorkerMoves as Workers
+use Rattle.turn_model.specs.Allowed.{worker_allows}
 
--- a shard, and whose packets the group is of that pends
+-- A shard, and whose packets the group is of that pends; and, for laws alone, all that it ever stored, which no move reads.
 pub record WorldShard : Type 0 where
   pub shard : Shard
   pub asked : Option Asker
+  pub ever : List StoredMessage
 
 -- The configuration, which no move changes; the shards and the workers, by number; and each message whose PUBACK, or PUBREC of success,
 -- was put out, with its shard.
@@ -35,7 +37,7 @@ abbrev pub opening_world : Config → World
 opening_world config =
     record {
       config = config;
-      shards = replicate config.shards (record { shard = opening_shard config; asked = None });
+      shards = replicate config.shards (record { shard = opening_shard config; asked = None; ever = [] });
       workers = map (λ (number : ℕ). opening_worker number (replicate config.shards (opening_list config))) (counted_from 0 config.workers);
       acked_out = [];
     }
@@ -95,9 +97,14 @@ abbrev pub packets_ask : Setting → PlainConnection → PlainSession → List P
 packets_ask s k m (Ack Pubrel a ∷ []) = release_ask s m a
 packets_ask s k m packets = publishes_ask s k m (publishes_of packets)
 
-abbrev pub ask_with : Setting → List PlainPacket → Option PlainConnection → Option PlainSession → Option Ask
-ask_with s packets (Some k) (Some m) = packets_ask s k m packets
-ask_with s packets k m = None
+abbrev pub ask_if : Bool → Option Ask → Option Ask
+ask_if true ask = ask
+ask_if false ask = None
+
+-- over a view that came since the shard stored a group of this worker
+abbrev pub ask_with : Setting → Worker → List PlainPacket → Option PlainConnection → Option PlainSession → Option Ask
+ask_with s w packets (Some k) (Some m) = ask_if (has_view s w m) (packets_ask s k m packets)
+ask_with s w packets k m = None
 
 abbrev pub asker_with : ℕ → ℕ → List PlainPacket → Option PlainSession → Option Asker
 asker_with worker conn packets None = None
@@ -107,12 +114,32 @@ asker_with worker conn packets (Some m) =
 module _ (profile : Profile) (config : Config) where
   -- ---- moves of a shard
 
+  -- what a group adds where it goes in
+  abbrev pub added_by : PendingChange → ShardList → List StoredMessage
+  added_by (AGroup ops now) list = drop (length list.messages) (store list ops now).messages
+  added_by other list = []
+
+  abbrev pub added_if : Bool → PendingChange → ShardList → List StoredMessage
+  added_if true pending list = added_by pending list
+  added_if false pending list = []
+
+  -- what this move adds
+  abbrev pub added_on : ShardMove → Shard → List StoredMessage
+  added_on Shards.Store s = added_if (if_group s.pending) s.pending s.stored
+  added_on (Shards.Settle goes_in) s = added_if goes_in s.pending s.stored
+  added_on other s = []
+
   abbrev pub shard_moved : ShardMove → WorldShard → WorldShard
-  shard_moved move s = record s { shard = shard_step profile config s.shard move }
+  shard_moved move s =
+      record s { shard = shard_step profile config s.shard move; ever = s.ever ++ added_on move s.shard }
 
   -- what pends is the group that these asked for, where it was begun
   abbrev pub group_begun : Asker → Shard → Shard → WorldShard → WorldShard
-  group_begun asked before after s = record { shard = after; asked = if pends_nothing before.pending && if_group after.pending then Some asked else s.asked }
+  group_begun asked before after s =
+      record s {
+        shard = after;
+        asked = if pends_nothing before.pending && if_group after.pending then Some asked else s.asked;
+      }
 
   abbrev pub begin_group : Asker → List Op → ℕ → WorldShard → WorldShard
   begin_group asked ops now s = group_begun asked s.shard (shard_step profile config s.shard (Shards.Begin ops now)) s
@@ -126,7 +153,7 @@ module _ (profile : Profile) (config : Config) where
   begin_by shard conn packets now None ss = ss
   begin_by shard conn packets now (Some w) ss =
       begin_at shard now
-      (ask_with (setting_of profile config now w) packets (connection_in w conn) (session_in w conn))
+      (ask_with (setting_of profile config now w) w packets (connection_in w conn) (session_in w conn))
       (asker_with w.number conn packets (session_in w conn)) ss
 
   -- ---- a stored group
@@ -150,6 +177,23 @@ module _ (profile : Profile) (config : Config) where
 
   -- ---- moves of a worker
 
+  -- of one that is there
+  abbrev pub allows_worker : WorkerMove → Option Worker → Bool
+  allows_worker move None = false
+  allows_worker move (Some w) = worker_allows profile config w move
+
+  -- what a shard was asked is dropped where the connection that asked ends: the answer goes to that very binding
+  abbrev pub asker_kept : ℕ → ℕ → Option Asker → Option Asker
+  asker_kept worker conn None = None
+  asker_kept worker conn (Some a) = if (a.worker == worker) && (a.connection == conn) then None else Some a
+
+  abbrev pub without_asker : ℕ → ℕ → WorldShard → WorldShard
+  without_asker worker conn s = record s { asked = asker_kept worker conn s.asked }
+
+  abbrev pub askers_kept : Bool → ℕ → ℕ → List WorldShard → List WorldShard
+  askers_kept true worker conn ss = map (without_asker worker conn) ss
+  askers_kept false worker conn ss = ss
+
   abbrev pub acks_of : Option Worker → WorkerMove → List (ℕ × StoredMessage)
   acks_of None move = []
   acks_of (Some w) move = worker_acks profile config w move
@@ -164,10 +208,18 @@ module _ (profile : Profile) (config : Config) where
 
   -- ---- a crash
 
+  abbrev pub crash_shard : Bool → WorldShard → WorldShard
+  crash_shard goes_in s =
+      record {
+        shard = crashed_shard config goes_in s.shard;
+        asked = None;
+        ever = s.ever ++ added_if goes_in s.shard.pending s.shard.stored;
+      }
+
   abbrev pub crash_shards : List Bool → List WorldShard → List WorldShard
   crash_shards choices [] = []
-  crash_shards [] (s ∷ ss) = record { shard = crashed_shard config false s.shard; asked = None } ∷ crash_shards [] ss
-  crash_shards (goes_in ∷ choices) (s ∷ ss) = record { shard = crashed_shard config goes_in s.shard; asked = None } ∷ crash_shards choices ss
+  crash_shards [] (s ∷ ss) = crash_shard false s ∷ crash_shards [] ss
+  crash_shards (goes_in ∷ choices) (s ∷ ss) = crash_shard goes_in s ∷ crash_shards choices ss
 
   abbrev pub crash_workers : List ShardList → ℕ → List Bool → List Worker → List Worker
   crash_workers lists now choices [] = []
@@ -188,6 +240,13 @@ module _ (profile : Profile) where
       record w {
         workers = at_place worker (λ k. worker_step profile w.config k move) w.workers;
         acked_out = w.acked_out ++ acks_of profile w.config (slice_get w.workers worker) move;
+      }
+
+  -- a connection of a worker ends
+  abbrev pub on_ending : ℕ → ℕ → WorkerMove → World → World
+  on_ending worker conn move w =
+      record (on_worker worker move w) {
+        shards = askers_kept profile w.config (allows_worker profile w.config move (slice_get w.workers worker)) worker conn w.shards;
       }
 
   abbrev pub stored_at : ℕ → World → World
@@ -219,8 +278,8 @@ module _ (profile : Profile) where
   world_step w (SettleJournal worker goes_in now) = on_worker worker (Workers.Settle goes_in now) w
   world_step w (Emit worker emitted now) = on_worker worker (Workers.Emit emitted now) w
   world_step w (Bind worker conn now) = on_worker worker (Workers.Bind conn now) w
-  world_step w (TakeOver worker conn) = on_worker worker (Workers.TakeOver conn) w
-  world_step w (Unbind worker conn ending now) = on_worker worker (Workers.Unbind conn ending now) w
+  world_step w (TakeOver worker conn) = on_ending worker conn (Workers.TakeOver conn) w
+  world_step w (Unbind worker conn ending now) = on_ending worker conn (Workers.Unbind conn ending now) w
   world_step w (Crash now of_shards of_workers) = crashed_workers now of_workers (crashed_shards now of_shards w)
 
   -- the world after a list of moves

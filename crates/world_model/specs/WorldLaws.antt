@@ -25,7 +25,7 @@ use Rattle.session_model.specs.IssuedPrefix.{IsIssuedPrefix}
 use Rattle.mqtt_packet.specs.Packet.{PlainPacket}
 use Rattle.turn_model.specs.PlainConnection.{PlainConnection, rest_of, is_bound_to}
 use Rattle.turn_model.specs.MayIssue.{same_entry}
-use Rattle.turn_model.specs.Resend.{Again, Releases, Publishes, Passes, again}
+use Rattle.turn_model.specs.Resend.{Again, Releases, Publishes, Passes, again, entries_with}
 use Rattle.turn_model.specs.Worker.{Worker, PendingRecord, Noted, SentAgain, Delivered, Note, sessions_of}
 use Rattle.turn_model.specs.Worker as Worker
 use Rattle.world_model.specs.World.{World, WorldShard, Move, opening_world, after_moves, world_step}
@@ -106,12 +106,12 @@ is_of k n = (n.connection == k.number) && (bytes_eq n.client k.client && (n.inca
 -- of what came of a connection, since it was bound last: what was to be sent again then, and what has been
 abbrev pub bound_rest : List Note → List Entry → List Entry
 bound_rest [] rest = rest
-bound_rest (n ∷ notes) rest = bound_rest notes (elim (n.noted) as (λ x. List Entry) [ Worker.Bound again passed ↦ again | SentAgain es ps ↦ rest | Delivered es ps ↦ rest ])
+bound_rest (n ∷ notes) rest = bound_rest notes (elim (n.noted) as (λ x. List Entry) [ Worker.Bound again passed ↦ again | SentAgain xs ↦ rest | Delivered xs ↦ rest ])
 
 abbrev pub taken_since : List Note → List Entry → List Entry
 taken_since [] taken = taken
 taken_since (n ∷ notes) taken =
-    taken_since notes (elim (n.noted) as (λ x. List Entry) [ Worker.Bound again passed ↦ [] | SentAgain es ps ↦ taken ++ es | Delivered es ps ↦ taken ])
+    taken_since notes (elim (n.noted) as (λ x. List Entry) [ Worker.Bound again passed ↦ [] | SentAgain xs ↦ taken ++ entries_with xs | Delivered xs ↦ taken ])
 
 abbrev pub notes_of : Worker → PlainConnection → List Note
 notes_of w k = filter (is_of k) w.history
@@ -134,14 +134,14 @@ RestIsUnfinished profile config =
     HasPlace w.connections k → HasPlace (sessions_of w).list m → is_bound_to k m ≡ true →
     filter (is_left m (taken_from w k)) (rest_at_bind w k) ≡ taken_from w k ++ rest_of m k
 
-abbrev pub packets_again : Again → List PlainPacket
-packets_again (Releases packet) = packet ∷ []
-packets_again (Publishes packet) = packet ∷ []
-packets_again Passes = []
+abbrev pub packet_again : Again → Option PlainPacket
+packet_again (Releases packet) = Some packet
+packet_again (Publishes packet) = Some packet
+packet_again Passes = None
 
--- What was sent again is what its entries gave, with their identifiers and payloads, in their order, at one moment: of the session that
--- the connection was bound to, over lists from which what is stored now has grown.
-pub record AreAgain (w : World) (n : Note) (entries : List Entry) (packets : List PlainPacket) : Type 0 where
+-- What was sent again is what its entries gave, each its packet or none, in their order, at one moment: of the session
+-- that the connection was bound to, over lists from which what is stored now has grown.
+pub record AreAgain (w : World) (n : Note) (sent : List (Entry × Option PlainPacket)) : Type 0 where
   pub session : PlainSession
   pub limit : ℕ
   pub now : ℕ
@@ -149,23 +149,23 @@ pub record AreAgain (w : World) (n : Note) (entries : List Entry) (packets : Lis
   pub its_client : session.client ≡ n.client
   pub its_number : session.incarnation ≡ n.incarnation
   pub grown : (shard : ℕ) (list : ShardList) (s : WorldShard) → slice_get lists shard ≡ Some list → slice_get w.shards shard ≡ Some s → HasGrown list s.shard.stored
-  pub same : packets ≡ flat_map (λ (e : Entry). packets_again (again session limit now lists e)) entries
+  pub same : sent ≡ map (λ (e : Entry). (e, packet_again (again session limit now lists e))) (entries_with sent)
 
 abbrev pub ResendsAreTheSame : Profile → Config → Type 0
 ResendsAreTheSame profile config =
-    (moves : List Move) (worker : ℕ) (w : Worker) (n : Note) (entries : List Entry) (packets : List PlainPacket) →
-    slice_get (reached profile config moves).workers worker ≡ Some w → HasPlace w.history n → n.noted ≡ SentAgain entries packets →
-    AreAgain (reached profile config moves) n entries packets
+    (moves : List Move) (worker : ℕ) (w : Worker) (n : Note) (sent : List (Entry × Option PlainPacket)) →
+    slice_get (reached profile config moves).workers worker ≡ Some w → HasPlace w.history n → n.noted ≡ SentAgain sent →
+    AreAgain (reached profile config moves) n sent
 
 -- No entry is sent again on a connection behind the first batch that was delivered on it.
 abbrev pub is_delivery : Note → Bool
-is_delivery n = elim (n.noted) as (λ x. Bool) [ Worker.Bound again passed ↦ false | SentAgain es ps ↦ false | Delivered es ps ↦ true ]
+is_delivery n = elim (n.noted) as (λ x. Bool) [ Worker.Bound again passed ↦ false | SentAgain xs ↦ false | Delivered xs ↦ true ]
 
 abbrev pub is_again : Note → Bool
-is_again n = elim (n.noted) as (λ x. Bool) [ Worker.Bound again passed ↦ false | SentAgain es ps ↦ true | Delivered es ps ↦ false ]
+is_again n = elim (n.noted) as (λ x. Bool) [ Worker.Bound again passed ↦ false | SentAgain xs ↦ true | Delivered xs ↦ false ]
 
 abbrev pub is_bound : Note → Bool
-is_bound n = elim (n.noted) as (λ x. Bool) [ Worker.Bound again passed ↦ true | SentAgain es ps ↦ false | Delivered es ps ↦ false ]
+is_bound n = elim (n.noted) as (λ x. Bool) [ Worker.Bound again passed ↦ true | SentAgain xs ↦ false | Delivered xs ↦ false ]
 
 abbrev pub ResendsComeFirst : Profile → Config → Type 0
 ResendsComeFirst profile config =
@@ -176,7 +176,7 @@ ResendsComeFirst profile config =
 -- ---- QoS 0
 
 abbrev pub delivered_entries : Note → List Entry
-delivered_entries n = elim (n.noted) as (λ x. List Entry) [ Worker.Bound again passed ↦ [] | SentAgain es ps ↦ [] | Delivered es ps ↦ es ]
+delivered_entries n = elim (n.noted) as (λ x. List Entry) [ Worker.Bound again passed ↦ [] | SentAgain xs ↦ [] | Delivered xs ↦ entries_with xs ]
 
 abbrev pub is_session_of : PlainSession → Note → Bool
 is_session_of m n = bytes_eq n.client m.client && (n.incarnation == m.incarnation)

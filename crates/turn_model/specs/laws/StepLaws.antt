@@ -141,7 +141,7 @@ by_case_is s k m p (Refuses reason) = tt
 by_case_is s k m p Asks = tt
 
 by_outcome_is : (client : List ℕ) (k : PlainConnection) (p : PublishFields) (outcome : Outcome) → AreOf client (publish_by_outcome k p outcome).changes
-by_outcome_is client k p Kept = tt
+by_outcome_is client k p (Kept acked) = tt
 by_outcome_is client k p IsFull = tt
 by_outcome_is client k p AwaitsTooMany = tt
 by_outcome_is client k p Faulted = tt
@@ -157,7 +157,7 @@ pubrel_is s k m id [] = by (is_awaited s m id)
         AreOf m.client (if b then asking (release_group s m id) else completion_step id Reason.no_packet_identifier).changes
     by true = tt
     by false = tt
-pubrel_is s k m id (Kept ∷ outcomes) = tt
+pubrel_is s k m id (Kept acked ∷ outcomes) = tt
 pubrel_is s k m id (IsFull ∷ outcomes) = tt
 pubrel_is s k m id (AwaitsTooMany ∷ outcomes) = tt
 pubrel_is s k m id (Faulted ∷ outcomes) = tt

@@ -1,5 +1,5 @@
 -- A move of the world that isn't allowed changes nothing and puts out nothing.
-use Rattle.std.proofs.Common.{◌≡◌, ℕ, zero, suc, Bool, true, false, ◌&&◌, eqb, if◌then◌else◌, List, [], ◌∷◌, ◌++◌, slice_get, Option, Some, None, refl, sym, ap, ◌∙◌}
+use Rattle.std.proofs.Common.{◌≡◌, ℕ, zero, suc, Bool, true, false, ◌&&◌, not, eqb, if◌then◌else◌, List, [], ◌∷◌, ◌++◌, slice_get, Option, Some, None, refl, sym, ap, ◌∙◌}
 use Rattle.std.proofs.lemmas.List.{append-nil}
 use Rattle.topic_model.specs.Profile.{Profile, Config}
 use Rattle.topic_model.specs.StoredMessage.{StoredMessage}
@@ -15,8 +15,8 @@ use Rattle.turn_model.specs.WorkerMoves.{WorkerMove, Asker, worker_step}
 use Rattle.turn_model.specs.WorkerMoves as Workers
 use Rattle.turn_model.specs.Allowed.{worker_allows}
 use Rattle.turn_model.specs.laws.AllowedLaws as WorkerLaws
-use Rattle.world_model.specs.World.{World, WorldShard, Move, Begin, Store, BeginRotate, Rotate, BeginDrop, Drop, SettleShard, Show, View, BeginCommit, Commit, SettleJournal, Emit, Bind, TakeOver, Unbind, Crash, at_place, ask_with, asker_with, shard_moved, group_begun, begin_group, begin_at, begin_by, handed_if, handed_by, acks_of, outs_of, on_shard, on_worker, stored_at, world_step, world_outs}
-use Rattle.world_model.specs.Allowed.{allows_shard, allows_worker, allows_group, allows_begin, world_allows}
+use Rattle.world_model.specs.World.{World, WorldShard, Move, Begin, Store, BeginRotate, Rotate, BeginDrop, Drop, SettleShard, Show, View, BeginCommit, Commit, SettleJournal, Emit, Bind, TakeOver, Unbind, Crash, at_place, ask_with, asker_with, shard_moved, group_begun, begin_group, begin_at, begin_by, handed_if, handed_by, acks_of, outs_of, on_shard, on_worker, on_ending, allows_worker, askers_kept, added_if, added_on, stored_at, world_step, world_outs}
+use Rattle.world_model.specs.Allowed.{allows_shard, allows_group, allows_begin, world_allows}
 
 -- ---- one of several that stays
 
@@ -25,11 +25,36 @@ stays_at place f [] same = refl
 stays_at zero f (x ∷ xs) same = ap (λ y. y ∷ xs) (same x refl)
 stays_at (suc place) f (x ∷ xs) same = ap (λ ys. x ∷ ys) (stays_at place f xs same)
 
+nothing_pends : (p : PendingChange) → not (pends_nothing p) ≡ false → p ≡ Nothing
+nothing_pends Nothing never = refl
+nothing_pends (AGroup ops now) never = cc
+nothing_pends (Shards.ACut now) never = cc
+nothing_pends Shards.ADrop never = cc
+
 module _ (profile : Profile) (config : Config) where
   -- ---- a shard
 
+  none_added : (s : Shard) (move : ShardMove) → shard_allows profile config s move ≡ false → added_on profile config move s ≡ []
+  none_added s (Shards.Begin ops now) never = refl
+  none_added s Shards.Store never = ap (λ (b : Bool). added_if profile config b s.pending s.stored) never
+  none_added s (Shards.BeginCut now) never = refl
+  none_added s Shards.Rotate never = refl
+  none_added s (Shards.BeginDrop now) never = refl
+  none_added s Shards.Drop never = refl
+  none_added s (Shards.Settle goes_in) never =
+      ap (λ (p : PendingChange). added_if profile config goes_in p s.stored) (nothing_pends s.pending never) ∙ none goes_in
+    where
+      none : (b : Bool) → added_if profile config b Nothing s.stored ≡ []
+      none true = refl
+      none false = refl
+  none_added s Shards.Show never = refl
+
   shard_same : (move : ShardMove) (s : WorldShard) → shard_allows profile config s.shard move ≡ false → shard_moved profile config move s ≡ s
-  shard_same move s never = ap (λ (x : Shard). record s { shard = x }) (ShardLaws.not_allowed profile config s.shard move never)
+  shard_same move s never =
+      ap (λ (x : Shard). record s { shard = x; ever = s.ever ++ added_on profile config move s.shard })
+      (ShardLaws.not_allowed profile config s.shard move never)
+      ∙ ap (λ (more : List StoredMessage). record s { ever = s.ever ++ more }) (none_added s.shard move never)
+      ∙ ap (λ (ever : List StoredMessage). record s { ever = ever }) (append-nil s.ever)
 
   shards_same : (place : ℕ) (move : ShardMove) (ss : List WorldShard) → allows_shard profile config move (slice_get ss place) ≡ false →
       at_place place (shard_moved profile config move) ss ≡ ss
@@ -44,7 +69,8 @@ module _ (profile : Profile) (config : Config) where
       ap (λ (x : Shard). group_begun profile config asked s.shard x s) (ShardLaws.not_allowed profile config s.shard (Shards.Begin ops now) never)
       ∙ keeps s.shard.pending
     where
-      keeps : (p : PendingChange) → record s { shard = s.shard; asked = if pends_nothing p && if_group p then Some asked else s.asked } ≡ s
+      keeps : (p : PendingChange) →
+          record s { shard = s.shard; asked = if pends_nothing p && if_group p then Some asked else s.asked } ≡ s
       keeps Nothing = refl
       keeps (AGroup others moment) = refl
       keeps (Shards.ACut moment) = refl
@@ -68,7 +94,7 @@ module _ (profile : Profile) (config : Config) where
       allows_begin profile config shard conn packets now w (slice_get ss shard) ≡ false → begin_by profile config shard conn packets now w ss ≡ ss
   begin_by_same shard conn packets now None ss never = refl
   begin_by_same shard conn packets now (Some w) ss never =
-      begin_same shard now (ask_with (setting_of profile config now w) packets (connection_in w conn) (session_in w conn))
+      begin_same shard now (ask_with (setting_of profile config now w) w packets (connection_in w conn) (session_in w conn))
       (asker_with w.number conn packets (session_in w conn)) ss never
 
   handed_same : (shard : ℕ) (s : Option WorldShard) (ws : List Worker) → allows_shard profile config Shards.Store s ≡ false → handed_by profile config shard s ws ≡ ws
@@ -108,6 +134,12 @@ module _ (profile : Profile) where
       ∙ ap (λ (acks : List (ℕ × StoredMessage)). record w { acked_out = w.acked_out ++ acks }) (none_acked profile w.config move (slice_get w.workers place) never)
       ∙ ap (λ (acked : List (ℕ × StoredMessage)). record w { acked_out = acked }) (append-nil w.acked_out)
 
+  of_ending : (place conn : ℕ) (move : WorkerMove) (w : World) →
+      allows_worker profile w.config move (slice_get w.workers place) ≡ false → on_ending profile place conn move w ≡ w
+  of_ending place conn move w never =
+      ap (λ (b : Bool). record (on_worker profile place move w) { shards = askers_kept profile w.config b place conn w.shards }) never
+      ∙ ap (λ (x : World). record x { shards = w.shards }) (of_worker place move w never)
+
   of_store : (place : ℕ) (w : World) → allows_shard profile w.config Shards.Store (slice_get w.shards place) ≡ false → stored_at profile place w ≡ w
   of_store place w never =
       ap (λ (ss : List WorldShard). record w { shards = ss; workers = handed_by profile w.config place (slice_get w.shards place) w.workers })
@@ -130,8 +162,8 @@ module _ (profile : Profile) where
   not_allowed w (SettleJournal worker goes_in now) never = of_worker worker (Workers.Settle goes_in now) w never
   not_allowed w (Emit worker emitted now) never = of_worker worker (Workers.Emit emitted now) w never
   not_allowed w (Bind worker conn now) never = of_worker worker (Workers.Bind conn now) w never
-  not_allowed w (TakeOver worker conn) never = of_worker worker (Workers.TakeOver conn) w never
-  not_allowed w (Unbind worker conn ending now) never = of_worker worker (Workers.Unbind conn ending now) w never
+  not_allowed w (TakeOver worker conn) never = of_ending worker conn (Workers.TakeOver conn) w never
+  not_allowed w (Unbind worker conn ending now) never = of_ending worker conn (Workers.Unbind conn ending now) w never
   not_allowed w (Crash now of_shards of_workers) never = cc
 
   pub not_put_out : (w : World) (move : Move) → world_allows profile w move ≡ false → world_outs profile w move ≡ []
