@@ -3,7 +3,7 @@ use Rattle.std.specs.Prelude.{◌≡◌, refl, [], ◌∷◌, ◌++◌, codes}
 use Rattle.topic_model.specs.Profile.{whole}
 use Rattle.world_model.specs.Running.{text_of_script}
 use Rattle.world_model.specs.Computing.{running}
-use Rattle.world_examples.specs.HostileWords.{accepted_holding, resumed_holding, lines, one, two, opens, closes, pumps, send, gets, ended, connect_a}
+use Rattle.world_examples.specs.HostileWords.{subscribe, accepted_holding, resumed_holding, lines, one, two, opens, closes, pumps, send, gets, ended, connect_a}
 use Rattle.world_examples.specs.HostileWords.{connect_p, accepted, resumed, of_hi, at_least_once, listening, heard, times}
 
 -- a Topic Alias closes with its own reason, whatever the QoS
@@ -180,23 +180,43 @@ identifiers_of_the_session_before : text_of_script whole (lines (opens one ∷ s
 unfolding running
 identifiers_of_the_session_before = refl
 
--- what a publisher without a session left awaited stays until the next publish, which takes it away
-ended_publisher : text_of_script whole (lines (opens one ∷ send one connect_a ∷ opens two ∷ send two (codes "100E00044D5154540500003C00000170")
-    ∷ send two (of_hi (codes "34") (codes "05")) ∷ closes two ∷ codes "look" ∷ send one (of_hi (codes "32") (codes "07")) ∷ codes "look" ∷ [])) []
-    ≡ lines (gets one accepted ∷ gets two accepted ∷ gets two (codes "50020005") ∷ codes "shard 0 floor 0 next 1 awaiting 1"
-    ∷ codes " generation 0 first 0 next 1 streams 1" ∷ codes "  stream 0 a/b count 1" ∷ codes "worker 0" ∷ codes " session a subs 0 unfinished 0"
-    ∷ gets one (codes "40020007") ∷ codes "shard 0 floor 0 next 2 awaiting 0" ∷ codes " generation 0 first 0 next 2 streams 1"
-    ∷ codes "  stream 0 a/b count 2" ∷ codes "worker 0" ∷ codes " session a subs 0 unfinished 0" ∷ [])
+-- What a publisher without a session left awaited stays as long as its end is only owed, as a crash would forget that; the
+-- next record has it, and then the next publish takes the identifiers away.
+ended_publisher : text_of_script whole (lines (opens one ∷ send one connect_a ∷ opens two
+    ∷ send two (codes "100E00044D5154540500003C00000170") ∷ send two (of_hi (codes "34") (codes "05")) ∷ closes two
+    ∷ send one (of_hi (codes "32") (codes "07")) ∷ codes "look" ∷ send one subscribe
+    ∷ send one (of_hi (codes "32") (codes "08")) ∷ codes "look" ∷ [])) []
+    ≡ lines (gets one accepted ∷ gets two accepted ∷ gets two (codes "50020005") ∷ gets one (codes "40020007")
+    ∷ codes "shard 0 floor 0 next 2 awaiting 1" ∷ codes " generation 0 first 0 next 2 streams 1"
+    ∷ codes "  stream 0 a/b count 2" ∷ codes "worker 0" ∷ codes " session a subs 0 unfinished 0"
+    ∷ gets one (codes "900400010001") ∷ gets one (codes "40020008") ∷ codes "shard 0 floor 0 next 3 awaiting 0"
+    ∷ codes " generation 0 first 0 next 3 streams 1" ∷ codes "  stream 0 a/b count 3" ∷ codes "worker 0"
+    ∷ codes " session a subs 1 unfinished 0" ∷ [])
 unfolding running
 ended_publisher = refl
 
--- the group of a PUBREL takes away as well what a publisher without a session left awaited
+-- the end that is owed is forgotten in a crash: the session lives again, and a repeat of its identifier is stored once
+end_forgotten_in_a_crash : text_of_script whole (lines (opens one ∷ send one connect_a ∷ opens two
+    ∷ send two (codes "101300044D5154540500003C051100000E10000170") ∷ send two (of_hi (codes "34") (codes "05"))
+    ∷ send two (codes "E007000511" ++ codes "00000000") ∷ send one (of_hi (codes "32") (codes "07")) ∷ codes "crash 1"
+    ∷ opens two ∷ send two (codes "101300044D5154540500003C051100000E10000170") ∷ send two (of_hi (codes "3C") (codes "05"))
+    ∷ codes "look" ∷ [])) []
+    ≡ lines (gets one accepted ∷ gets two accepted ∷ gets two (codes "50020005") ∷ ended two ∷ gets one (codes "40020007")
+    ∷ codes "crashed" ∷ gets two resumed ∷ gets two (codes "50020005") ∷ codes "shard 0 floor 0 next 2 awaiting 1"
+    ∷ codes " generation 0 first 0 next 2 streams 1" ∷ codes "  stream 0 a/b count 2" ∷ codes "worker 0"
+    ∷ codes " session a subs 0 unfinished 0" ∷ codes " session p subs 0 unfinished 0" ∷ [])
+unfolding running
+end_forgotten_in_a_crash = refl
+
+-- the group of a PUBREL takes away as well what a publisher without a session left awaited, once its end is in a record
 release_forgets_too : text_of_script whole (lines (opens one ∷ send one connect_a ∷ opens two
     ∷ send two (codes "100E00044D5154540500003C00000170") ∷ send one (of_hi (codes "34") (codes "06"))
-    ∷ send two (of_hi (codes "34") (codes "05")) ∷ closes two ∷ send one (codes "62020006") ∷ codes "look" ∷ [])) []
-    ≡ lines (gets one accepted ∷ gets two accepted ∷ gets one (codes "50020006") ∷ gets two (codes "50020005") ∷ gets one (codes "70020006")
-    ∷ codes "shard 0 floor 0 next 2 awaiting 0" ∷ codes " generation 0 first 0 next 2 streams 1" ∷ codes "  stream 0 a/b count 2"
-    ∷ codes "worker 0" ∷ codes " session a subs 0 unfinished 0" ∷ [])
+    ∷ send two (of_hi (codes "34") (codes "05")) ∷ closes two ∷ send one subscribe ∷ send one (codes "62020006")
+    ∷ codes "look" ∷ [])) []
+    ≡ lines (gets one accepted ∷ gets two accepted ∷ gets one (codes "50020006") ∷ gets two (codes "50020005")
+    ∷ gets one (codes "900400010001") ∷ gets one (codes "70020006") ∷ codes "shard 0 floor 0 next 2 awaiting 0"
+    ∷ codes " generation 0 first 0 next 2 streams 1" ∷ codes "  stream 0 a/b count 2" ∷ codes "worker 0"
+    ∷ codes " session a subs 1 unfinished 0" ∷ [])
 unfolding running
 release_forgets_too = refl
 

@@ -22,3 +22,4 @@ pub mod HostileTicks
 pub mod HostileWorkers
 pub mod StageRows
 pub mod MoveRows
+pub mod HostileMoves

@@ -10,7 +10,7 @@ use Rattle.mqtt_packet.specs.declared.packet.Wish.{Wish}
 use Rattle.mqtt_packet.specs.Packet.{PlainPacket, Connect, Connack, Publish, Subscribe, ConnectFields, PublishFields, ack}
 use Rattle.turn_model.specs.PlainConnection.{PlainConnection}
 use Rattle.turn_model.specs.Worker.{Worker, Out, Sent, Closed}
-use Rattle.turn_model.specs.WorkerMoves.{Cause, OfPackets, OfConnect, OfPump, OfItem, OfPacket, OfResend, by_client}
+use Rattle.turn_model.specs.WorkerMoves.{Cause, OfPackets, OfConnect, OfPump, OfTick, OfOwed, OfItem, OfPacket, OfResend, by_client}
 use Rattle.world_model.specs.World.{World, Move, Begin, Store, Show, View, BeginCommit, Commit, SettleJournal, Emit, Bind, TakeOver, Unbind, world_step, world_outs}
 use Rattle.world_model.specs.Allowed.{world_allows}
 use Rattle.world_model.specs.Lines.{script_of}
@@ -19,21 +19,21 @@ use Rattle.world_model.specs.Computing.{running}
 use Rattle.world_examples.specs.HostileWords.{lines, send, one, two, opens, listening, at_least_once, of_hi}
 
 -- `a` on connection 1 has a subscription to `a/b`, and `p` on connection 2 has published `hi` to it
-abbrev both : World
+abbrev pub both : World
 both = (final_state whole (script_of (lines (listening at_least_once ++ send two (of_hi (codes "32") (codes "07")) ∷ []))) []).world
 
 -- what a list of moves puts out
-abbrev outs_after : World → List Move → List Out
+abbrev pub outs_after : World → List Move → List Out
 outs_after w [] = []
 outs_after w (move ∷ moves) = world_outs whole w move ++ outs_after (world_step whole w move) moves
 
-abbrev world_after : World → List Move → World
+abbrev pub world_after : World → List Move → World
 world_after w [] = w
 world_after w (move ∷ moves) = world_after (world_step whole w move) moves
 
 -- ---- a batch
 
-abbrev issues : ℕ → ℕ → Issues
+abbrev pub issues : ℕ → ℕ → Issues
 issues offset number =
     record {
       subscription = 1;
@@ -42,10 +42,10 @@ issues offset number =
       sweep = record { generation = 0; base = 0; target = 1; stream = 0; position = 1 };
     }
 
-abbrev pumps_out : ℕ → ℕ → List Move
+abbrev pub pumps_out : ℕ → ℕ → List Move
 pumps_out offset number = BeginCommit 0 (OfPump 1 (Some (issues offset number))) 0 ∷ Commit 0 ∷ Emit 0 (OfItem 0) 0 ∷ []
 
-abbrev hi : ℕ → PlainPacket
+abbrev pub hi : ℕ → PlainPacket
 hi id = Publish (record { dup = false; qos = 1; retain = false; topic = codes "a/b"; id = id; props = []; payload = codes "hi" })
 
 -- the message goes out with the next number, once
@@ -85,15 +85,15 @@ ended_before_commit = refl
 
 -- ---- a connection's number for another client
 
-abbrev connect_of : List ℕ → ConnectFields
+abbrev pub connect_of : List ℕ → ConnectFields
 connect_of client =
     record { clean = false; keep_alive = 60; props = Four 0x11 3600 ∷ []; client = client; will = None; user = None; password = None }
 
-abbrev accepted_as : Bool → PlainPacket
+abbrev pub accepted_as : Bool → PlainPacket
 accepted_as present =
     Connack (record { present = present; reason = 0; props = Two 0x21 32 ∷ Byte 0x25 0 ∷ Four 0x27 1048576 ∷ Byte 0x2A 0 ∷ [] })
 
-abbrev again_hi : PublishFields
+abbrev pub again_hi : PublishFields
 again_hi = record { dup = false; qos = 1; retain = false; topic = codes "a/b"; id = 9; props = []; payload = codes "hi" }
 
 -- `p` publishes, its connection ends, and `b` comes on that number before the group is in: it is told nothing of it
@@ -117,7 +117,7 @@ not_stored = refl
 
 -- ---- what asks for no group, and what asks for one
 
-abbrev subscribes : PlainPacket
+abbrev pub subscribes : PlainPacket
 subscribes = Subscribe (record { id = 9; props = []; filters = record { filter = codes "c"; options = 1 } ∷ [] })
 
 -- a SUBSCRIBE begins no group, and is not answered without its record
@@ -163,18 +163,20 @@ no_takeover_of_itself = refl
 
 -- ---- owed changes
 
-abbrev owed_in : World → List Change
+abbrev pub owed_in : World → List Change
 owed_in w = elim (slice_get w.workers 0) as (λ k. List Change) [ None ↦ [] | Some k ↦ k.owed ]
 
-abbrev parted_a : Change
+abbrev pub parted_a : Change
 parted_a = change (codes "a") (Parted (record { expiry = 3600; moment = 5 }))
 
 -- they stay owed until a record with them is in
-owed_until_it_is_in : owed_in (world_after both (Unbind 0 1 by_client 5 ∷ BeginCommit 0 (OfPackets 2 (subscribes ∷ [])) 5 ∷ SettleJournal 0 false 5 ∷ [])) ≡ parted_a ∷ []
+owed_until_it_is_in : owed_in (world_after both (Unbind 0 1 by_client 5 ∷ BeginCommit 0 OfTick 5
+    ∷ BeginCommit 0 OfOwed 5 ∷ SettleJournal 0 false 5 ∷ [])) ≡ parted_a ∷ []
 unfolding running
 owed_until_it_is_in = refl
 
-owed_no_more : owed_in (world_after both (Unbind 0 1 by_client 5 ∷ BeginCommit 0 (OfPackets 2 (subscribes ∷ [])) 5 ∷ SettleJournal 0 true 5 ∷ [])) ≡ []
+owed_no_more : owed_in (world_after both (Unbind 0 1 by_client 5 ∷ BeginCommit 0 (OfPackets 2 (subscribes ∷ [])) 5
+    ∷ Commit 0 ∷ [])) ≡ []
 unfolding running
 owed_no_more = refl
 

@@ -454,7 +454,7 @@ module _ (profile : Profile) where
         lobby = [];
         chances = after_mount c.chances;
         owing = [];
-        printed = ended_line (codes "after_crash") ∷ s.printed;
+        printed = ended_line (codes "crashed") ∷ s.printed;
       }
 
   abbrev pub crashed_after : State → Crashing → State
