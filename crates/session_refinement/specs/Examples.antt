@@ -1,5 +1,5 @@
--- Computed examples: batches that are read again, and what is kept of a session with two batches of which one is finished, an ended
--- subscription and a silent batch.
+-- Computed examples: batches that are read again, and what is kept of a session with two batches of which one is
+-- finished, an ended subscription and a silent batch.
 use Rattle.std.specs.Prelude.{ℕ, ◌≡◌, true, false, List, [], ◌∷◌, length, map, codes, refl}
 use Rattle.topic_model.specs.Profile.{Profile, whole, default_config}
 use Rattle.topic_model.specs.Levels.{levels_of}
@@ -29,7 +29,8 @@ use Rattle.session_refinement.specs.StandFor.{Group, entries_of, batches_of, kep
 abbrev list : ShardList
 list =
     store (opening_list default_config)
-    (Store (said 2 1 (codes "t/a")) ∷ Store (said 1 0 (codes "t/a")) ∷ Store (said 2 2 (codes "t/a")) ∷ Store (said 2 3 (codes "u")) ∷ Store (said 0 0 (codes "t/a")) ∷ []) 0
+    (Store (said 2 1 (codes "t/a")) ∷ Store (said 1 0 (codes "t/a")) ∷ Store (said 2 2 (codes "t/a"))
+    ∷ Store (said 2 3 (codes "u")) ∷ Store (said 0 0 (codes "t/a")) ∷ []) 0
 
 -- where topics aren't learned there is one stream
 abbrev unlearned : Profile
@@ -37,7 +38,20 @@ unlearned = record whole { learns = false }
 
 abbrev batch : Batch
 batch =
-    record { version = 1; shard = 0; generation = 0; stream = 0; from = 0; to = 5; limit = 4294967295; first1 = 7; count1 = 1; first2 = 9; count2 = 2 }
+    record {
+      version = 1;
+      shard = 0;
+      generation = 0;
+      stream = 0;
+      from = 0;
+      to = 5;
+      limit = 4294967295;
+      first1 =
+          7;
+      count1 = 1;
+      first2 = 9;
+      count2 = 2;
+    }
 
 abbrev version : ℕ → Version
 version options = record { number = 1; subscription = 1; options = options; identifier = 0 }
@@ -52,7 +66,8 @@ again options b = kinds (entries_again unlearned list (codes "c") (version optio
 read_again : again 2 batch ≡ Track2 9 ∷ Track1 7 ∷ Track2 10 ∷ Zero ∷ []
 read_again = refl
 
-offsets_again : map (λ (e : Entry). e.offset) (entries_again unlearned list (codes "c") (version 2) (levels_of (codes "t/#")) batch) ≡ 0 ∷ 1 ∷ 2 ∷ 4 ∷ []
+offsets_again : map (λ (e : Entry). e.offset)
+    (entries_again unlearned list (codes "c") (version 2) (levels_of (codes "t/#")) batch) ≡ 0 ∷ 1 ∷ 2 ∷ 4 ∷ []
 offsets_again = refl
 
 -- the lesser QoS
@@ -68,7 +83,8 @@ all_silent : again 2 (record batch { limit = kept_limit true 4294967295 }) ≡ S
 all_silent = refl
 
 -- so are a client's own messages under No Local
-own_messages : kinds (entries_again unlearned list (codes "p") (version 6) (levels_of (codes "t/#")) batch) ≡ Silent ∷ Silent ∷ Silent ∷ Silent ∷ []
+own_messages : kinds (entries_again unlearned list (codes "p") (version 6) (levels_of (codes "t/#")) batch) ≡ Silent
+    ∷ Silent ∷ Silent ∷ Silent ∷ []
 own_messages = refl
 
 another_stream : again 2 (record batch { stream = 1 }) ≡ []
@@ -89,7 +105,17 @@ abbrev sweep : ℕ → Sweep
 sweep position = record { generation = 0; base = 0; target = 5; stream = 0; position = position }
 
 abbrev subscribes : Effect
-subscribes = Subscribed (record { subscription = 1; version = 1; options = 2; identifier = 0; filter = levels_of (codes "t/#"); sweeps = sweep 0 ∷ [] })
+subscribes =
+    Subscribed
+    (record {
+      subscription = 1;
+      version = 1;
+      options = 2;
+      identifier = 0;
+      filter = levels_of (codes "t/#");
+      sweeps =
+          sweep 0 ∷ [];
+    })
 
 abbrev first : Batch
 first = record batch { from = 0; to = 2; first1 = 1; count1 = 1; first2 = 1; count2 = 1 }
@@ -113,16 +139,19 @@ pub record Both : Type 0 where
   pub plain : PlainSession
 
 abbrev make : List Entry → Effect → Both → Both
-make entries effect b = record { kept = kept_changed effect b.kept; plain = changed_session (plain_effect entries effect) b.plain }
+make entries effect b =
+    record { kept = kept_changed effect b.kept; plain = changed_session (plain_effect entries effect) b.plain }
 
 abbrev begun : Both
 begun = record { kept = begun_kept (codes "c") 1 3600 512; plain = begun_session (codes "c") 1 3600 512 }
 
 abbrev issued : Both
-issued = make (entries_for second) (issues second 5) (make (entries_for first) (issues first 2) (make [] subscribes begun))
+issued = make (entries_for second) (issues second 5)
+    (make (entries_for first) (issues first 2) (make [] subscribes begun))
 
 abbrev groups : List Group
-groups = record { batch = first; entries = entries_for first } ∷ record { batch = second; entries = entries_for second } ∷ []
+groups = record { batch = first; entries = entries_for first } ∷ record { batch = second; entries = entries_for second }
+    ∷ []
 
 all_issued : issued.plain.issued ≡ entries_of groups
 all_issued = refl
@@ -161,7 +190,8 @@ kept_alike = refl
 
 -- a silent batch is never kept, but its entries were issued
 abbrev silenced : Both
-silenced = make (record { subscription = 1; version = 1; shard = 0; offset = 5; kind = Silent } ∷ []) (issues silent 6) issued
+silenced = make (record { subscription = 1; version = 1; shard = 0; offset = 5; kind = Silent } ∷ [])
+    (issues silent 6) issued
 
 silent_not_kept : silenced.kept.batches ≡ first ∷ second ∷ []
 silent_not_kept = refl

@@ -1,5 +1,6 @@
 -- How a kept session stands for a plain one, and the kept sessions of a worker for plain ones.
-use Rattle.std.specs.Prelude.{◌≤◌, ℕ, ◌≡◌, Bool, true, false, ◌&&◌, ◌==◌, nat_le, nat_lt, List, [], ◌∷◌, ◌++◌, length, map, slice_get, Option, Some, None}
+use Rattle.std.specs.Prelude.{◌≤◌, ℕ, ◌≡◌, Bool, true, false, ◌&&◌, ◌==◌, nat_le, nat_lt, List, [], ◌∷◌, ◌++◌, length}
+use Rattle.std.specs.Prelude.{map, slice_get, Option, Some, None}
 use Rattle.std.specs.List.{flat_map, list_any, list_all}
 use Rattle.std.specs.Str.{bytes_eq}
 use Rattle.topic_model.specs.Profile.{Profile}
@@ -13,7 +14,8 @@ use Rattle.session_model.specs.declared.entry.Entry.{Entry}
 use Rattle.session_model.specs.declared.entry.Version.{Version}
 use Rattle.session_model.specs.Entry.{numbers1, numbers2}
 use Rattle.session_model.specs.PlainSession as session
-use Rattle.session_model.specs.PlainSession.{PlainSession, Subscription, next_subscription, next_version, subscription_numbered, version_numbered}
+use Rattle.session_model.specs.PlainSession.{PlainSession, Subscription, next_subscription, next_version}
+use Rattle.session_model.specs.PlainSession.{subscription_numbered, version_numbered}
 use Rattle.session_model.specs.Unfinished as plain_session
 use Rattle.session_model.specs.Unfinished.{kept_subscriptions}
 use Rattle.session_model.specs.Acting.{numbers_from}
@@ -36,11 +38,20 @@ kept_sweeps false sweeps = []
 
 -- a subscription as a session keeps it
 abbrev pub kept_sub : Subscription → KeptSub
-kept_sub s = record { number = s.number; live = s.live; version = s.version; filter = s.filter; sweeps = kept_sweeps s.live s.sweeps }
+kept_sub s =
+    record {
+      number = s.number;
+      live = s.live;
+      version = s.version;
+      filter = s.filter;
+      sweeps =
+          kept_sweeps s.live s.sweeps;
+    }
 
 -- subscriptions and versions are numbered from 1 on without a gap
 pub record AreNumbered (plain : PlainSession) : Type 0 where
-  pub subscriptions : map (λ (s : Subscription). s.number) plain.subscriptions ≡ numbers_from 1 (length plain.subscriptions)
+  pub subscriptions : map (λ (s : Subscription). s.number) plain.subscriptions
+      ≡ numbers_from 1 (length plain.subscriptions)
   pub versions : map (λ (v : Version). v.number) plain.versions ≡ numbers_from 1 (length plain.versions)
 
 -- ---- batches
@@ -56,7 +67,8 @@ is_entry_from subscription b e =
     (e.subscription == subscription)
     && ((e.version == b.version) && ((e.shard == b.shard) && (nat_le b.from e.offset && nat_lt e.offset b.to)))
 
--- The entries are the batch's: each is one of the subscription of the batch's version, and they have the numbers that the batch names.
+-- The entries are the batch's: each is one of the subscription of the batch's version, and they have the numbers that
+-- the batch names.
 pub record IsGroup (plain : PlainSession) (g : Group) : Type 0 where
   pub version : Version
   pub subscription : Subscription
@@ -78,8 +90,9 @@ batches_of groups = map (λ (g : Group). g.batch) groups
 
 -- ---- apart from the lists
 
--- The fields and tracks agree, and what is kept of the subscriptions and versions is what the plain session keeps of them. All that was
--- issued falls into these groups, one for each batch, and the batches with an unfinished number are kept, in the order of issue.
+-- The fields and tracks agree, and what is kept of the subscriptions and versions is what the plain session keeps of
+-- them. All that was issued falls into these groups, one for each batch, and the batches with an unfinished number are
+-- kept, in the order of issue.
 pub record Keeps (kept : KeptSession) (plain : PlainSession) (groups : List Group) : Type 0 where
   pub client : kept.client ≡ plain.client
   pub incarnation : kept.incarnation ≡ plain.incarnation
@@ -103,7 +116,8 @@ pub record Keeps (kept : KeptSession) (plain : PlainSession) (groups : List Grou
 -- a batch whose generation is held in its shard's list gives its entries when it is read again
 abbrev pub IsReadAgain : Profile → List ShardList → PlainSession → Group → Type 0
 IsReadAgain profile lists plain g =
-    (list : ShardList) (v : Version) (s : Subscription) → slice_get lists g.batch.shard ≡ Some list → holds list g.batch.generation ≡ true →
+    (list : ShardList) (v : Version) (s : Subscription) → slice_get lists g.batch.shard ≡ Some list →
+    holds list g.batch.generation ≡ true →
     version_numbered g.batch.version plain ≡ Some v → subscription_numbered v.subscription plain ≡ Some s →
     g.entries ≡ entries_again profile list plain.client v s.filter g.batch
 
@@ -133,7 +147,8 @@ was_issued_to plain p offset = list_any (is_issue_of p.subscription.number p.sha
 -- its sweep is in order, and counts a wanted message exactly where it was issued
 pub record IsCounted (profile : Profile) (plain : PlainSession) (p : Pair) (list : ShardList) : Type 0 where
   pub order : is_in_order profile list p.start p.sweep ≡ true
-  pub counts : (w : StoredMessage) → HasPlace (wanted p.subscription.filter p.start list) w → was_issued_to plain p w.offset ≡ is_issued_by profile list p.sweep w.offset
+  pub counts : (w : StoredMessage) → HasPlace (wanted p.subscription.filter p.start list) w →
+      was_issued_to plain p w.offset ≡ is_issued_by profile list p.sweep w.offset
 
 -- the offsets that a sweep of a shard names, and a batch of it
 abbrev pub sweep_positions : Option Sweep → List ℕ
@@ -163,9 +178,10 @@ pub record IsWithin (kept : KeptSession) (shard : ℕ) (list : ShardList) : Type
   pub positions : list_all (λ (p : ℕ). nat_le p (next_of list)) (positions_of kept shard) ≡ true
   pub generations : list_all (λ (n : ℕ). nat_le n (newest list).number) (generations_of kept shard) ≡ true
 
--- A kept session stands for a plain one over the lists of the shards: it keeps of it what it needs, and its batches are read again, its
--- sweeps count what was issued and are in order, and no position passes the end of its shard's list.
-pub record StandsFor (profile : Profile) (lists : List ShardList) (kept : KeptSession) (plain : PlainSession) : Type 0 where
+-- A kept session stands for a plain one over the lists of the shards: it keeps of it what it needs, and its batches are
+-- read again, its sweeps count what was issued and are in order, and no position passes the end of its shard's list.
+pub record StandsFor (profile : Profile) (lists : List ShardList) (kept : KeptSession)
+    (plain : PlainSession) : Type 0 where
   pub groups : List Group
   pub keeps : Keeps kept plain groups
   pub again : AreReadAgain profile lists plain groups
@@ -200,7 +216,8 @@ pub record SessionsKeep (kept : KeptSessions) (plain : session.Sessions) : Type 
   pub distinct : HaveOwnClients (clients_of plain.list)
 
 -- in the order in which they began, each of a client of its own, and the next one gets the same number
-pub record SessionsStandFor (profile : Profile) (lists : List ShardList) (kept : KeptSessions) (plain : session.Sessions) : Type 0 where
+pub record SessionsStandFor (profile : Profile) (lists : List ShardList) (kept : KeptSessions)
+    (plain : session.Sessions) : Type 0 where
   pub list : Pairwise (StandsFor profile lists) kept.list plain.list
   pub next : kept.next ≡ plain.next
   pub distinct : HaveOwnClients (clients_of plain.list)

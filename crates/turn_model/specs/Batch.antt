@@ -40,7 +40,15 @@ size_out r m Zero = delivery_length r.version m Zero
 size_out r m Silent = 0
 
 abbrev pub entry_of : Reader → StoredMessage → Kind → Entry
-entry_of r m kind = record { subscription = r.subscription; version = r.version.number; shard = r.shard; offset = m.offset; kind = kind }
+entry_of r m kind =
+    record {
+      subscription = r.subscription;
+      version = r.version.number;
+      shard = r.shard;
+      offset = m.offset;
+      kind =
+          kind;
+    }
 
 -- messages as they are issued, the numbers of each track going on from these
 abbrev pub entries_from : ℕ → Reader → ℕ → ℕ → List StoredMessage → List Entry
@@ -73,7 +81,8 @@ is_alike a b = (a && b) || (not a && not b)
 abbrev pub has_byte_place : ℕ → ℕ → ℕ → Bool
 has_byte_place most used size = nat_le (used + size) most || (used == 0)
 
--- A run is cut before the first message that differs from its first in having expired, and before the first packet that has no place.
+-- A run is cut before the first message that differs from its first in having expired, and before the first packet that
+-- has no place.
 abbrev pub cut_within : ℕ → Reader → ℕ → Bool → ℕ → ℕ → ℕ → List StoredMessage → List StoredMessage
 cut_within now r most expired used next1 next2 [] = []
 cut_within now r most expired used next1 next2 (m ∷ ms) =
@@ -84,7 +93,8 @@ cut_within now r most expired used next1 next2 (m ∷ ms) =
 
 abbrev pub cut_run : Profile → ℕ → Reader → ℕ → ℕ → List StoredMessage → List StoredMessage
 cut_run profile now r next1 next2 [] = []
-cut_run profile now r next1 next2 (m ∷ ms) = cut_within now r profile.batch_bytes (has_expired now m) 0 next1 next2 (m ∷ ms)
+cut_run profile now r next1 next2 (m ∷ ms) =
+    cut_within now r profile.batch_bytes (has_expired now m) 0 next1 next2 (m ∷ ms)
 
 -- the next number of each track
 abbrev pub next1_of : PlainSession → ℕ

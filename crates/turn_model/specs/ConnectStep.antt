@@ -1,5 +1,6 @@
 -- CONNECT (MQTT 3.1): which session it begins or resumes, why it is refused, and what CONNACK says (MQTT 3.2).
-use Rattle.std.specs.Prelude.{ℕ, zero, suc, ◌+◌, Bool, true, false, ◌&&◌, ◌||◌, not, ◌==◌, nat_le, nat_lt, if◌then◌else◌, List, [], ◌∷◌, ◌++◌, length, Option, Some, None, is_some}
+use Rattle.std.specs.Prelude.{ℕ, zero, suc, ◌+◌, Bool, true, false, ◌&&◌, ◌||◌, not, ◌==◌, nat_le, nat_lt}
+use Rattle.std.specs.Prelude.{if◌then◌else◌, List, [], ◌∷◌, ◌++◌, length, Option, Some, None, is_some}
 use Rattle.topic_model.specs.Profile.{Profile}
 use Rattle.topic_model.specs.Routing.{assigned_identifier, routed_worker}
 use Rattle.session_model.specs.PlainSession.{PlainSession, Sessions, session_of}
@@ -7,7 +8,9 @@ use Rattle.session_model.specs.Change.{Change, Began, Ended, Bound, change}
 use Rattle.session_model.specs.Acting.{without_session}
 use Rattle.session_model.specs.FitsSession.{greatest, wide_count}
 use Rattle.session_model.specs.Ends.{is_over}
-use Rattle.mqtt_props.specs.declared.table.TheConstants.{ASSIGNED_CLIENT_IDENTIFIER, AUTHENTICATION_METHOD, MAXIMUM_PACKET_SIZE, RECEIVE_MAXIMUM, RETAIN_AVAILABLE, SHARED_SUBSCRIPTION_AVAILABLE}
+use Rattle.mqtt_props.specs.declared.table.TheConstants.{ASSIGNED_CLIENT_IDENTIFIER, AUTHENTICATION_METHOD}
+use Rattle.mqtt_props.specs.declared.table.TheConstants.{MAXIMUM_PACKET_SIZE, RECEIVE_MAXIMUM, RETAIN_AVAILABLE}
+use Rattle.mqtt_props.specs.declared.table.TheConstants.{SHARED_SUBSCRIPTION_AVAILABLE}
 use Rattle.mqtt_props.specs.declared.prop.Prop.{Prop}
 use Rattle.mqtt_props.specs.declared.prop.Prop.TheVariants.{Byte, Two, Four, Text}
 use Rattle.mqtt_props.specs.Lookup.{first_of, text_in, two_in}
@@ -25,11 +28,14 @@ is_free sessions client = not (is_some (session_of client sessions))
 abbrev pub free_number : ℕ → Sessions → ℕ → ℕ → ℕ
 free_number worker sessions number zero = number
 free_number worker sessions number (suc more) =
-    elim (is_free sessions (assigned_identifier worker number)) as (λ free. ℕ) [ true ↦ number | false ↦ free_number worker sessions (number + 1) more ]
+    elim (is_free sessions (assigned_identifier worker number)) as
+    (λ free. ℕ) [ true ↦ number | false ↦ free_number worker sessions (number + 1) more ]
 
--- an empty identifier is replaced: by the worker's number and the least one from its next session's on that no session has
+-- an empty identifier is replaced: by the worker's number and the least one from its next session's on that no session
+-- has
 abbrev pub assigned_client : Setting → List ℕ
-assigned_client s = assigned_identifier s.worker (free_number s.worker s.sessions s.sessions.next (length s.sessions.list))
+assigned_client s = assigned_identifier s.worker
+    (free_number s.worker s.sessions s.sessions.next (length s.sessions.list))
 
 abbrev pub is_unnamed : ConnectFields → Bool
 is_unnamed c = length c.client == 0
@@ -39,7 +45,8 @@ client_for s c = if is_unnamed c then assigned_client s else c.client
 
 -- ---- the session that is there (MQTT 3.1.2.4, 4.1)
 
--- It isn't resumed: Clean Start asks for a new one, its interval is over, or it has an interval of 0 and ends with its connection.
+-- It isn't resumed: Clean Start asks for a new one, its interval is over, or it has an interval of 0 and ends with its
+-- connection.
 abbrev pub ends_with : Setting → ConnectFields → PlainSession → Bool
 ends_with s c m = c.clean || (is_over s.now m || (m.expiry == 0))
 
@@ -58,7 +65,9 @@ takes_wide profile (Some maximum) = nat_le profile.wide_window maximum
 
 abbrev pub window_for : Setting → ConnectFields → List ℕ → ℕ
 window_for s c client =
-    if s.profile.widens && (takes_wide s.profile (first_of (two_in RECEIVE_MAXIMUM) c.props) && nat_lt (wide_count s.profile (others s.sessions client)) s.profile.wide_sessions)
+    if s.profile.widens
+    && (takes_wide s.profile (first_of (two_in RECEIVE_MAXIMUM) c.props)
+    && nat_lt (wide_count s.profile (others s.sessions client)) s.profile.wide_sessions)
     then s.profile.wide_window
     else s.profile.window
 
@@ -68,11 +77,13 @@ ended_if false client = []
 
 abbrev pub began_change : Setting → ConnectFields → List ℕ → Change
 began_change s c client =
-    change client (Began (record { incarnation = s.sessions.next; expiry = expiry_of c.props; window = window_for s c client }))
+    change client
+    (Began (record { incarnation = s.sessions.next; expiry = expiry_of c.props; window = window_for s c client }))
 
 abbrev pub connect_changes : Setting → ConnectFields → List ℕ → Bool → List Change
 connect_changes s c client true = change client (Bound (expiry_of c.props)) ∷ []
-connect_changes s c client false = ended_if (is_some (session_of client s.sessions)) client ++ began_change s c client ∷ []
+connect_changes s c client false =
+    ended_if (is_some (session_of client s.sessions)) client ++ began_change s c client ∷ []
 
 -- the number of the session that is resumed, or of the one that begins
 abbrev pub number_or : ℕ → Option PlainSession → ℕ
@@ -93,7 +104,8 @@ is_home s client = routed_worker client s.config.workers == s.worker
 
 -- no place among the sessions, or no number is left for a new one
 abbrev pub has_no_session_place : Setting → List ℕ → Bool
-has_no_session_place s client = nat_le s.profile.sessions (length (others s.sessions client)) || nat_le greatest s.sessions.next
+has_no_session_place s client = nat_le s.profile.sessions (length (others s.sessions client))
+    || nat_le greatest s.sessions.next
 
 -- why a CONNECT that is well formed is refused: the first that holds (MQTT 3.1.2.5, 3.1.2.11.9, 3.1.3.1)
 abbrev pub connect_refusal : Setting → ConnectFields → Option ℕ
@@ -101,7 +113,8 @@ connect_refusal s c =
     if is_some (first_of (text_in AUTHENTICATION_METHOD) c.props) then Some Reason.bad_authentication_method
     else if is_some c.will then Some Reason.implementation_error
     else if nat_lt s.profile.client (length c.client) then Some Reason.bad_client_identifier
-    else if not (is_resumed_if s c (session_of (client_for s c) s.sessions)) && has_no_session_place s (client_for s c) then Some Reason.server_busy
+    else if not (is_resumed_if s c (session_of (client_for s c) s.sessions)) && has_no_session_place s (client_for s c)
+    then Some Reason.server_busy
     else None
 
 -- ---- CONNACK
@@ -115,8 +128,8 @@ refusing reason = connack false reason []
 abbrev pub assigned_props : ConnectFields → List ℕ → List Prop
 assigned_props c client = if is_unnamed c then Text ASSIGNED_CLIENT_IDENTIFIER client ∷ [] else []
 
--- what the server takes (MQTT 3.2.2.3): identifiers of QoS 2 that a connection may hold, no retained messages, the longest packet, no
--- shared subscriptions
+-- what the server takes (MQTT 3.2.2.3): identifiers of QoS 2 that a connection may hold, no retained messages, the
+-- longest packet, no shared subscriptions
 abbrev pub server_props : Profile → List Prop
 server_props profile =
     Two RECEIVE_MAXIMUM profile.held
@@ -136,7 +149,8 @@ takeover_close conn = close_with conn Reason.session_taken_over 0
 
 abbrev pub takeover_closes : Setting → List ℕ → List Close
 takeover_closes s client =
-    elim (connection_of client s.connections) as (λ found. List Close) [ None ↦ [] | Some k ↦ takeover_close k.number ∷ [] ]
+    elim (connection_of client s.connections) as
+    (λ found. List Close) [ None ↦ [] | Some k ↦ takeover_close k.number ∷ [] ]
 
 abbrev pub connect_accepted : Setting → ConnectFields → List ℕ → Bool → Step
 connect_accepted s c client present =

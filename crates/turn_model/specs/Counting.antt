@@ -16,17 +16,19 @@ use Rattle.turn_model.specs.MayIssue.{Issuing, reader_of, wanted_by, was_issued}
 
 -- a wanted message was issued exactly where the sweep counts it as issued
 abbrev pub CountsIssued : Profile → Issuing → Sweep → Type 0
-CountsIssued profile i sweep = (w : StoredMessage) → HasPlace (wanted_by i) w → was_issued i w.offset ≡ is_issued_by profile i.list sweep w.offset
+CountsIssued profile i sweep = (w : StoredMessage) → HasPlace (wanted_by i) w →
+    was_issued i w.offset ≡ is_issued_by profile i.list sweep w.offset
 
--- A run comes next: the list is in order, the subscription is live, and nothing is left to be sent again; the sweep is in order and
--- counts what was issued; and the run is the next one, of as many messages as may be issued.
+-- A run comes next: the list is in order, the subscription is live, and nothing is left to be sent again; the sweep is
+-- in order and counts what was issued; and the run is the next one, of as many messages as may be issued.
 pub record ComesNext (profile : Profile) (i : Issuing) (sweep : Sweep) (run : Run) : Type 0 where
   pub list : IsList i.list
   pub live : i.subscription.live ≡ true
   pub first : rest_of i.session i.connection ≡ []
   pub order : is_in_order profile i.list i.start sweep ≡ true
   pub counts : CountsIssued profile i sweep
-  pub next : next_run profile i.subscription.filter i.start i.list sweep (pump_limit profile i.session i.connection) ≡ Some run
+  pub next : next_run profile i.subscription.filter i.start i.list sweep (pump_limit profile i.session i.connection)
+      ≡ Some run
 
 -- the messages that a pump takes of a run, and what it issues
 abbrev pub taken_of : Profile → Issuing → Run → List StoredMessage

@@ -1,5 +1,6 @@
 -- How a stored message goes out to a subscription, and how many bytes that takes.
-use Rattle.std.specs.Prelude.{ℕ, ◌+◌, ◌-◌, ◌/◌, ◌%◌, min, Bool, true, false, ◌&&◌, ◌||◌, ◌==◌, nat_le, nat_lt, if◌then◌else◌, List, [], ◌∷◌, ◌++◌, length, Option, Some, None, Result, Ok, Err}
+use Rattle.std.specs.Prelude.{ℕ, ◌+◌, ◌-◌, ◌/◌, ◌%◌, min, Bool, true, false, ◌&&◌, ◌||◌, ◌==◌, nat_le, nat_lt}
+use Rattle.std.specs.Prelude.{if◌then◌else◌, List, [], ◌∷◌, ◌++◌, length, Option, Some, None, Result, Ok, Err}
 use Rattle.std.specs.Str.{bytes_eq}
 use Rattle.topic_model.specs.Levels.{text_of_levels}
 use Rattle.topic_model.specs.StoredMessage.{StoredMessage}
@@ -58,7 +59,8 @@ abbrev pub publisher_props : StoredMessage → List Prop
 publisher_props m = props_or_none (bare_props In.Publish m.props)
 
 abbrev pub delivered_props : ℕ → Version → StoredMessage → List Prop
-delivered_props now v m = in_writing_order (expiry_props m.expiry (seconds_waited now m) ++ (identifier_props v.identifier ++ publisher_props m))
+delivered_props now v m = in_writing_order
+    (expiry_props m.expiry (seconds_waited now m) ++ (identifier_props v.identifier ++ publisher_props m))
 
 -- ---- the packet (MQTT 3.3)
 
@@ -74,13 +76,12 @@ delivery_with dup qos id now v m =
       payload = m.payload;
     })
 
--- The PUBLISH that carries a message as an entry of this kind, at a moment. DUP tells that it was sent before (MQTT 3.3.1.1). A silent
--- entry is never put out.
+-- The PUBLISH that carries a message as an entry of this kind, at a moment. DUP tells that it was sent before (MQTT
+-- 3.3.1.1). A silent entry is never put out.
 abbrev pub delivery : Bool → ℕ → Version → StoredMessage → Kind → PlainPacket
 delivery dup now v m (Track1 number) = delivery_with dup 1 (id1 number) now v m
 delivery dup now v m (Track2 number) = delivery_with dup 2 (id2 number) now v m
-delivery dup now v m Zero = delivery_with false 0 0 now v m
-delivery dup now v m Silent = delivery_with false 0 0 now v m
+delivery dup now v m other = delivery_with false 0 0 now v m
 
 -- ---- its length, as a number
 
@@ -95,15 +96,15 @@ expiry_prop_size (Some expiry) = 5
 abbrev pub id_size : Kind → ℕ
 id_size (Track1 number) = 2
 id_size (Track2 number) = 2
-id_size Zero = 0
-id_size Silent = 0
+id_size other = 0
 
 abbrev pub delivered_props_size : Version → StoredMessage → ℕ
 delivered_props_size v m = expiry_prop_size m.expiry + identifier_size v.identifier + length m.props
 
 abbrev pub delivery_body_size : Version → StoredMessage → Kind → ℕ
 delivery_body_size v m kind =
-    2 + length (text_of_levels m.topic) + id_size kind + var_size (delivered_props_size v m) + delivered_props_size v m + length m.payload
+    2 + length (text_of_levels m.topic) + id_size kind + var_size
+    (delivered_props_size v m) + delivered_props_size v m + length m.payload
 
 -- How long the packet is that carries a message as an entry of this kind: it depends on no number and on no moment.
 abbrev pub delivery_length : Version → StoredMessage → Kind → ℕ
@@ -118,8 +119,8 @@ numbered_kind qos next1 next2 = if qos == 0 then Zero else if qos == 1 then Trac
 abbrev pub loud_kind : Version → StoredMessage → ℕ → ℕ → Kind
 loud_kind v m next1 next2 = numbered_kind (min m.qos (qos_of v.options)) next1 next2
 
--- For whom messages are issued: the client and the longest packet that it takes (MQTT 3.1.2.11.4), the subscription with its version,
--- and the shard.
+-- For whom messages are issued: the client and the longest packet that it takes (MQTT 3.1.2.11.4), the subscription
+-- with its version, and the shard.
 pub record Reader : Type 0 where
   pub client : List ℕ
   pub limit : ℕ
@@ -131,7 +132,8 @@ pub record Reader : Type 0 where
 abbrev pub is_own : Reader → StoredMessage → Bool
 is_own r m = no_local_of r.version.options && bytes_eq m.publisher r.client
 
--- Issued and never sent: an own message under No Local, one that has expired, and one whose packet is longer than the client takes.
+-- Issued and never sent: an own message under No Local, one that has expired, and one whose packet is longer than the
+-- client takes.
 abbrev pub is_kept_back : ℕ → Reader → StoredMessage → Kind → Bool
 is_kept_back now r m kind = is_own r m || (has_expired now m || nat_lt r.limit (delivery_length r.version m kind))
 
@@ -141,4 +143,5 @@ silent_if false kind = kind
 
 -- the kind that a message is issued as, with the next numbers of the two tracks
 abbrev pub kind_for : ℕ → Reader → StoredMessage → ℕ → ℕ → Kind
-kind_for now r m next1 next2 = silent_if (is_kept_back now r m (loud_kind r.version m next1 next2)) (loud_kind r.version m next1 next2)
+kind_for now r m next1 next2 = silent_if (is_kept_back now r m (loud_kind r.version m next1 next2))
+    (loud_kind r.version m next1 next2)

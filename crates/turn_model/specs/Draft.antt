@@ -1,5 +1,6 @@
 -- A part of a turn as it grows: what one call of a worker does, move by move.
-use Rattle.std.specs.Prelude.{ℕ, ◌+◌, Bool, true, false, ◌&&◌, not, ◌==◌, nat_lt, if◌then◌else◌, List, [], ◌∷◌, ◌++◌, length, filter, find, Option, Some, None, is_some}
+use Rattle.std.specs.Prelude.{ℕ, ◌+◌, Bool, true, false, ◌&&◌, not, ◌==◌, nat_lt, if◌then◌else◌, List, [], ◌∷◌, ◌++◌}
+use Rattle.std.specs.Prelude.{length, filter, find, Option, Some, None, is_some}
 use Rattle.topic_model.specs.Profile.{Profile, Config}
 use Rattle.shard_model.specs.ShardList.{ShardList}
 use Rattle.shard_model.specs.Storing.{Op}
@@ -9,10 +10,13 @@ use Rattle.mqtt_frame.specs.declared.refused.BadHeader.{BadHeader}
 use Rattle.mqtt_frame.specs.PlainFramer.{PlainFramer}
 use Rattle.mqtt_packet.specs.Packet.{PlainPacket, PublishFields}
 use Rattle.turn_model.specs.PlainConnection.{PlainConnection, connection_of, packet_limit_of}
-use Rattle.turn_model.specs.Step.{Setting, reply, is_empty}
+use Rattle.turn_model.specs.Step.{Setting, reply, is_nil}
 use Rattle.turn_model.specs.ConnectStep.{refusing}
-use Rattle.turn_model.specs.Worker.{Worker, Item, Answer, Answers, Accepts, Delivers, PendingRecord, Out, Sent, Closed, setting_of, connection_in, is_short, are_sendable}
-use Rattle.turn_model.specs.WorkerMoves.{WorkerMove, View, BeginCommit, Commit, Emit, OfItem, Unbind, Cause, OfPackets, OfConnect, OfPump, OfTick, OfOwed, Ending, with_reason, silently, Stepped, worker_step, worker_outs, item_at}
+use Rattle.turn_model.specs.Worker.{Worker, Item, Answer, Answers, Accepts, Delivers, PendingRecord, Out, Sent, Closed}
+use Rattle.turn_model.specs.Worker.{setting_of, connection_in, is_short, are_sendable}
+use Rattle.turn_model.specs.WorkerMoves.{WorkerMove, View, BeginCommit, Commit, Emit, OfItem, Unbind, Cause, OfPackets}
+use Rattle.turn_model.specs.WorkerMoves.{OfConnect, OfPump, OfTick, OfOwed, Ending, with_reason, silently, Stepped}
+use Rattle.turn_model.specs.WorkerMoves.{worker_step, worker_outs, item_at}
 use Rattle.turn_model.specs.Reasons as Reason
 
 -- ---- what stands beside a worker
@@ -35,11 +39,13 @@ without_reading conn rs = filter (λ (r : OpenConnection). not (r.connection == 
 
 abbrev pub with_framer : ℕ → PlainFramer → List OpenConnection → List OpenConnection
 with_framer conn framer [] = []
-with_framer conn framer (r ∷ rs) = (if r.connection == conn then record r { framer = framer } else r) ∷ with_framer conn framer rs
+with_framer conn framer (r ∷ rs) =
+    (if r.connection == conn then record r { framer = framer } else r) ∷ with_framer conn framer rs
 
 -- ---- what a call is asked, and what it asks
 
--- what comes to a worker: a connection is opened, bytes come on it, its client closes it, it is to be pumped; time has passed
+-- what comes to a worker: a connection is opened, bytes come on it, its client closes it, it is to be pumped; time has
+-- passed
 pub data Arrival : Type 0 where
   Opened : ℕ → Arrival
   Bytes : ℕ → List ℕ → Arrival
@@ -73,9 +79,10 @@ pub data Request : Type 0 where
   ForBodies : ℕ → List ℕ → Request
   ForDrop : ℕ → Request
 
--- what follows its answer: publishes, or a PUBREL, are answered; a pump goes on, having asked these shards; and other shards drop
+-- what follows its answer: publishes, or a PUBREL, are answered; a pump goes on, having asked these shards; and other
+-- shards drop
 pub data After : Type 0 where
-  AfterPublishes : List PublishFields → After
+  AfterPublishes : PublishFields → List PublishFields → After
   AfterRelease : PlainPacket → After
   AfterBodies : List ℕ → After
   AfterDrop : List ℕ → After
@@ -89,9 +96,9 @@ pub data Status : Type 0 where
 
 -- ---- the draft
 
--- The worker after the moves, the moves and what they put out, what stands beside it, the choices, and the report so far. Of a piece: the
--- publishes of the group that is open, the packets of the record that is open and what they have changed so far, the publishes that are to
--- be asked one by one, and the tokens that are left.
+-- The worker after the moves, the moves and what they put out, what stands beside it, the choices, and the report so
+-- far. Of a piece: the publishes of the group that is open, the packets of the record that is open and what they have
+-- changed so far, the publishes that are to be asked one by one, and the tokens that are left.
 pub record Draft : Type 0 where
   pub worker : Worker
   pub moves : List WorkerMove
@@ -119,8 +126,8 @@ pub data Next : Type 0 where
   Done : Report → Next
   JournalFault : Next
 
--- one call: the worker's moves, what is put out, what then stands beside it, what is left of the turn and what comes of it, and the choices
--- that are left
+-- one call: the worker's moves, what is put out, what then stands beside it, what is left of the turn and what comes of
+-- it, and the choices that are left
 pub record Part : Type 0 where
   pub moves : List WorkerMove
   pub outs : List Out
@@ -166,7 +173,8 @@ part_of own d =
       moves = d.moves;
       outs = d.outs;
       beside = d.beside;
-      todo = record { connection = own; after = after_of d.status; singly = d.singly; rest = d.rest; report = d.report };
+      todo =
+          record { connection = own; after = after_of d.status; singly = d.singly; rest = d.rest; report = d.report };
       next = next_after d.status d.report;
       fates = d.fates;
     }
@@ -179,7 +187,8 @@ not_open conn d = record d { beside = record d.beside { readings = without_readi
 -- of one that isn't: no move, and nothing is written
 abbrev pub closed_unbound : ℕ → Draft → Draft
 closed_unbound conn d =
-    not_open conn (record d { outs = d.outs ++ (if is_some (reading_at conn d.beside.readings) then Closed conn ∷ [] else []) })
+    not_open conn
+    (record d { outs = d.outs ++ (if is_some (reading_at conn d.beside.readings) then Closed conn ∷ [] else []) })
 
 abbrev pub reason_or_none : Option ℕ → ℕ
 reason_or_none None = 0
@@ -187,12 +196,14 @@ reason_or_none (Some reason) = reason
 
 -- the turn's own connection is closed, and the turn is over but for its report
 abbrev pub own_closed : Option ℕ → ℕ → Draft → Draft
-own_closed reason rule d = record d { status = Ended; report = record d.report { closed = Some (reason_or_none reason); rule = rule } }
+own_closed reason rule d = record d
+    { status = Ended; report = record d.report { closed = Some (reason_or_none reason); rule = rule } }
 
 abbrev pub own_unbound_closed : ℕ → ℕ → Draft → Draft
 own_unbound_closed conn rule d = own_closed None rule (closed_unbound conn d)
 
--- A refused CONNECT is answered, unless its client takes no packet so long (MQTT 3.1.2.11.4), and its connection closed.
+-- A refused CONNECT is answered, unless its client takes no packet so long (MQTT 3.1.2.11.4), and its connection
+-- closed.
 abbrev pub refused_if : Bool → ℕ → ℕ → ℕ → Draft → Draft
 refused_if true conn reason rule d =
     own_closed (Some reason) rule (closed_unbound conn (record d { outs = d.outs ++ Sent conn (refusing reason) ∷ [] }))
@@ -213,7 +224,8 @@ named_by (Some p) = client_of p.changes
 
 abbrev pub bound_number : Option (List ℕ) → Worker → Option ℕ
 bound_number None w = None
-bound_number (Some client) w = elim (connection_of client w.connections) as (λ k. Option ℕ) [ None ↦ None | Some k ↦ Some k.number ]
+bound_number (Some client) w = elim (connection_of client w.connections) as
+    (λ k. Option ℕ) [ None ↦ None | Some k ↦ Some k.number ]
 
 module _ (profile : Profile) (config : Config) (now : ℕ) where
   abbrev pub push : WorkerMove → Draft → Draft
@@ -249,22 +261,26 @@ module _ (profile : Profile) (config : Config) (now : ℕ) where
   -- a CONNECT isn't bound yet: it is told by its CONNACK
   abbrev pub own_closed_by_journal : Cause → Draft → Draft
   own_closed_by_journal (OfPackets conn packets) d = own_bound_closed conn (with_reason Reason.implementation_error) 0 d
-  own_closed_by_journal (OfConnect conn c) d = connect_refused (packet_limit_of c.props) conn Reason.implementation_error 0 d
+  own_closed_by_journal (OfConnect conn c) d =
+      connect_refused (packet_limit_of c.props) conn Reason.implementation_error 0 d
   own_closed_by_journal (OfPump conn b) d = own_bound_closed conn (with_reason Reason.implementation_error) 0 d
   own_closed_by_journal OfTick d = d
   own_closed_by_journal OfOwed d = d
 
-  -- The journal failed: the turn's connection is closed, and the one of the session that the record names; the turn is over.
+  -- The journal failed: the turn's connection is closed, and the one of the session that the record names; the turn is
+  -- over.
   abbrev pub failed_by : Cause → Option (List ℕ) → Draft → Draft
   failed_by cause client d =
-      let own = own_closed_by_journal cause d in record (named_closed (bound_number client own.worker) own) { status = Failed }
+      let own = own_closed_by_journal cause d in
+      record (named_closed (bound_number client own.worker) own) { status = Failed }
 
   abbrev pub committed_unless : Bool → Cause → Cause → Draft → Draft
   committed_unless true cause own d = failed_by own (named_by d.worker.pending) d
   committed_unless false cause own d = push Commit d
 
   abbrev pub drawn_commit : Drawn → Cause → Cause → Draft → Draft
-  drawn_commit drawn cause own d = committed_unless drawn.fails cause own (push (BeginCommit cause now) (record d { fates = drawn.fates }))
+  drawn_commit drawn cause own d = committed_unless drawn.fails cause own
+      (push (BeginCommit cause now) (record d { fates = drawn.fates }))
 
   abbrev pub commit_if : Bool → Cause → Cause → Draft → Draft
   commit_if true cause own d = drawn_commit (draw d.fates) cause own d
@@ -276,7 +292,7 @@ module _ (profile : Profile) (config : Config) (now : ℕ) where
 
   -- owed changes that don't go into one record with these many others take records of their own, first
   abbrev pub is_crowded : ℕ → Draft → Bool
-  is_crowded count d = not (is_empty d.worker.owed) && nat_lt profile.changes (length d.worker.owed + count)
+  is_crowded count d = not (is_nil d.worker.owed) && nat_lt profile.changes (length d.worker.owed + count)
 
   abbrev pub owed_if : Bool → Cause → Draft → Draft
   owed_if true own d = commit OfOwed own d
@@ -306,7 +322,8 @@ module _ (profile : Profile) (config : Config) (now : ℕ) where
   long_closed false conn d = own_bound_closed conn (silently None) 0 d
 
   abbrev pub put_out : ℕ → Draft → Draft
-  put_out conn d = long_closed (item_is_short (connection_in d.worker conn) (item_at d.worker 0)) conn (push (Emit (OfItem 0) now) d)
+  put_out conn d = long_closed (item_is_short (connection_in d.worker conn) (item_at d.worker 0)) conn
+      (push (Emit (OfItem 0) now) d)
 
   abbrev pub put_out_if : Bool → ℕ → Draft → Draft
   put_out_if true conn d = put_out conn d

@@ -1,5 +1,7 @@
--- Whether a session may be issued a batch of a subscription in a shard: a relation that names no stream, and the test that computes it.
-use Rattle.std.specs.Prelude.{ℕ, ◌≡◌, ◌≤◌, ◌<◌, ◌⊎◌, Bool, true, false, ◌&&◌, ◌||◌, not, ◌==◌, nat_le, nat_lt, List, [], ◌∷◌, length, filter, slice_get, find, Option, Some, None}
+-- Whether a session may be issued a batch of a subscription in a shard: a relation that names no stream, and the test
+-- that computes it.
+use Rattle.std.specs.Prelude.{ℕ, ◌≡◌, ◌≤◌, ◌<◌, ◌⊎◌, Bool, true, false, ◌&&◌, ◌||◌, not, ◌==◌, nat_le, nat_lt, List, []}
+use Rattle.std.specs.Prelude.{◌∷◌, length, filter, slice_get, find, Option, Some, None}
 use Rattle.std.specs.List.{list_any, list_all}
 use Rattle.topic_model.specs.Profile.{Profile}
 use Rattle.topic_model.specs.StoredMessage.{StoredMessage}
@@ -19,8 +21,8 @@ use Rattle.turn_model.specs.Batch.{pump_limit, entries_from, bytes_from, packets
 
 -- ---- who is issued what
 
--- a session and its connection at a moment; a live subscription with its present version, and where it starts in a shard; and the list
--- of that shard
+-- a session and its connection at a moment; a live subscription with its present version, and where it starts in a
+-- shard; and the list of that shard
 pub record Issuing : Type 0 where
   pub session : PlainSession
   pub connection : PlainConnection
@@ -33,14 +35,22 @@ pub record Issuing : Type 0 where
 
 abbrev pub reader_of : Issuing → Reader
 reader_of i =
-    record { client = i.session.client; limit = i.connection.packet_limit; subscription = i.subscription.number; version = i.version; shard = i.shard }
+    record {
+      client = i.session.client;
+      limit = i.connection.packet_limit;
+      subscription =
+          i.subscription.number;
+      version = i.version;
+      shard = i.shard;
+    }
 
 abbrev pub wanted_by : Issuing → List StoredMessage
 wanted_by i = wanted i.subscription.filter i.start i.list
 
 -- the message with this offset was issued for the subscription in this shard
 abbrev pub is_issue_of : ℕ → ℕ → ℕ → Entry → Bool
-is_issue_of subscription shard offset e = (e.subscription == subscription) && ((e.shard == shard) && (e.offset == offset))
+is_issue_of subscription shard offset e =
+    (e.subscription == subscription) && ((e.shard == shard) && (e.offset == offset))
 
 abbrev pub was_issued : Issuing → ℕ → Bool
 was_issued i offset = list_any (is_issue_of i.subscription.number i.shard offset) i.session.issued
@@ -56,7 +66,8 @@ Ascend (w ∷ v ∷ ws) = (w.offset < v.offset) × Ascend (v ∷ ws)
 -- Each is wanted and not issued; and each earlier message of its topic that is wanted was issued, or stands before it.
 abbrev pub NoneSkipped : Issuing → List StoredMessage → Type 0
 NoneSkipped i ws =
-    (place : ℕ) (w earlier : StoredMessage) → slice_get ws place ≡ Some w → HasPlace (wanted_by i) earlier → earlier.offset < w.offset →
+    (place : ℕ) (w earlier : StoredMessage) → slice_get ws place ≡ Some w → HasPlace (wanted_by i) earlier →
+    earlier.offset < w.offset →
     same_topic earlier.topic w.topic ≡ true →
     (was_issued i earlier.offset ≡ true) ⊎ ((before : ℕ) × (before < place) × (slice_get ws before ≡ Some earlier))
 
@@ -65,7 +76,8 @@ pub record MayIssue (profile : Profile) (i : Issuing) (b : Issues) (ws : List St
   -- nothing is left to be sent again, and the subscription is live
   pub first : rest_of i.session i.connection ≡ []
   pub live : i.subscription.live ≡ true
-  -- the entries are of these messages, each with its kind, under the present version, and the numbers go on from those issued
+  -- the entries are of these messages, each with its kind, under the present version, and the numbers go on from those
+  -- issued
   pub subscription : b.subscription ≡ i.subscription.number
   pub shard : b.shard ≡ i.shard
   pub entries : b.entries ≡ entries_from i.now (reader_of i) (next1_of i.session) (next2_of i.session) ws
@@ -75,7 +87,8 @@ pub record MayIssue (profile : Profile) (i : Issuing) (b : Issues) (ws : List St
   pub are_new : (k : ℕ) (w : StoredMessage) → slice_get ws k ≡ Some w → was_issued i w.offset ≡ false
   pub in_turn : NoneSkipped i ws
   -- all have expired, or none has
-  pub alike : (k j : ℕ) (w v : StoredMessage) → slice_get ws k ≡ Some w → slice_get ws j ≡ Some v → has_expired i.now w ≡ has_expired i.now v
+  pub alike : (k j : ℕ) (w v : StoredMessage) → slice_get ws k ≡ Some w → slice_get ws j ≡ Some v →
+      has_expired i.now w ≡ has_expired i.now v
   -- as many as the batch, the room and the quota allow, and as many bytes, unless it is one packet
   pub few : length ws ≤ pump_limit profile i.session i.connection
   pub short : (bytes_from i.now (reader_of i) (next1_of i.session) (next2_of i.session) ws ≤ profile.batch_bytes)
@@ -92,7 +105,8 @@ same_kind other another = false
 
 abbrev pub same_entry : Entry → Entry → Bool
 same_entry a b =
-    (a.subscription == b.subscription) && ((a.version == b.version) && ((a.shard == b.shard) && ((a.offset == b.offset) && same_kind a.kind b.kind)))
+    (a.subscription == b.subscription)
+    && ((a.version == b.version) && ((a.shard == b.shard) && ((a.offset == b.offset) && same_kind a.kind b.kind)))
 
 abbrev pub same_entries : List Entry → List Entry → Bool
 same_entries [] [] = true
@@ -121,11 +135,16 @@ left_to_issue i = filter (λ (w : StoredMessage). not (was_issued i w.offset)) (
 abbrev pub is_first : StoredMessage → List StoredMessage → Bool
 is_first w [] = false
 is_first w (v ∷ vs) =
-    elim (v.offset == w.offset) as (λ same. Bool) [ true ↦ true | false ↦ elim (same_topic v.topic w.topic) as (λ same. Bool) [ true ↦ false | false ↦ is_first w vs ] ]
+    elim (v.offset == w.offset) as (λ same. Bool) [
+      | true ↦ true
+      | false ↦ elim (same_topic v.topic w.topic) as
+          (λ same. Bool) [ true ↦ false | false ↦ is_first w vs ]
+    ]
 
 abbrev pub without_message : StoredMessage → List StoredMessage → List StoredMessage
 without_message w [] = []
-without_message w (v ∷ vs) = elim (v.offset == w.offset) as (λ same. List StoredMessage) [ true ↦ vs | false ↦ v ∷ without_message w vs ]
+without_message w (v ∷ vs) = elim (v.offset == w.offset) as
+    (λ same. List StoredMessage) [ true ↦ vs | false ↦ v ∷ without_message w vs ]
 
 -- each in turn is the first of its topic that is left
 abbrev pub come_in_turn : List StoredMessage → List StoredMessage → Bool
@@ -160,9 +179,20 @@ may_issue_as profile i b = may_issue_these profile i b (messages_of (wanted_by i
 
 -- ---- over the lists that a worker has seen
 
-abbrev pub issuing_with : PlainSession → PlainConnection → ℕ → ℕ → Option ShardList → Option Subscription → Option ℕ → Option Version → Option Issuing
+abbrev pub issuing_with : PlainSession → PlainConnection → ℕ → ℕ → Option ShardList → Option Subscription → Option ℕ →
+    Option Version → Option Issuing
 issuing_with m k now shard (Some list) (Some s) (Some start) (Some v) =
-    Some (record { session = m; connection = k; now = now; subscription = s; version = v; shard = shard; start = start; list = list })
+    Some (record {
+      session = m;
+      connection = k;
+      now = now;
+      subscription = s;
+      version = v;
+      shard = shard;
+      start = start;
+      list =
+          list;
+    })
 issuing_with m k now shard list s start v = None
 
 abbrev pub start_in : ℕ → Option Subscription → Option ℕ
@@ -173,8 +203,10 @@ abbrev pub version_in : PlainSession → Option Subscription → Option Version
 version_in m None = None
 version_in m (Some s) = version_numbered s.version m
 
-abbrev pub issuing_of : PlainSession → PlainConnection → ℕ → List ShardList → Issues → Option Subscription → Option Issuing
-issuing_of m k now lists b s = issuing_with m k now b.shard (slice_get lists b.shard) s (start_in b.shard s) (version_in m s)
+abbrev pub issuing_of : PlainSession → PlainConnection → ℕ → List ShardList → Issues → Option Subscription →
+    Option Issuing
+issuing_of m k now lists b s = issuing_with m k now b.shard (slice_get lists b.shard) s (start_in b.shard s)
+    (version_in m s)
 
 -- the sweep behind the batch is in order too
 abbrev pub may_issue_under : Profile → Issues → Option Issuing → Bool
@@ -183,4 +215,5 @@ may_issue_under profile b (Some i) = may_issue_as profile i b && is_in_order pro
 
 -- whether a pump may issue this batch, and leave this sweep, over these lists
 abbrev pub may_issue : Profile → PlainSession → PlainConnection → ℕ → List ShardList → Issues → Bool
-may_issue profile m k now lists b = may_issue_under profile b (issuing_of m k now lists b (subscription_numbered b.subscription m))
+may_issue profile m k now lists b =
+    may_issue_under profile b (issuing_of m k now lists b (subscription_numbered b.subscription m))

@@ -1,5 +1,6 @@
 -- What a packet of a bound connection does, with a case for each kind; the end of a connection; and a Tick.
-use Rattle.std.specs.Prelude.{ℕ, ◌+◌, ◌*◌, Bool, true, false, ◌&&◌, ◌==◌, nat_lt, if◌then◌else◌, List, [], ◌∷◌, map, filter, Option, Some, None}
+use Rattle.std.specs.Prelude.{ℕ, ◌+◌, ◌*◌, Bool, true, false, ◌&&◌, ◌==◌, nat_lt, if◌then◌else◌, List, [], ◌∷◌, map}
+use Rattle.std.specs.Prelude.{filter, Option, Some, None}
 use Rattle.shard_model.specs.declared.sweep.Sweep.{Sweep}
 use Rattle.shard_model.specs.ShardList.{ShardList}
 use Rattle.shard_model.specs.SweepOrder.{starting_sweep}
@@ -10,12 +11,15 @@ use Rattle.mqtt_props.specs.declared.table.TheConstants.{SESSION_EXPIRY_INTERVAL
 use Rattle.mqtt_props.specs.Lookup.{first_of, four_in, var_in, or_default}
 use Rattle.mqtt_packet.specs.declared.packet.AckKind.{AckKind}
 use Rattle.mqtt_packet.specs.declared.packet.AckKind.TheVariants.{Puback, Pubrec, Pubrel, Pubcomp}
-use Rattle.mqtt_packet.specs.Packet.{PlainPacket, Connect, Connack, Publish, Ack, Subscribe, Suback, Unsubscribe, Unsuback, Pingreq, Pingresp, Disconnect, Auth, AckFields, SubscribeFields, UnsubscribeFields, EndFields}
+use Rattle.mqtt_packet.specs.Packet.{PlainPacket, Connect, Connack, Publish, Ack, Subscribe, Suback, Unsubscribe}
+use Rattle.mqtt_packet.specs.Packet.{Unsuback, Pingreq, Pingresp, Disconnect, Auth, AckFields, SubscribeFields}
+use Rattle.mqtt_packet.specs.Packet.{UnsubscribeFields, EndFields}
 use Rattle.turn_model.specs.PlainConnection.{PlainConnection, no_effects}
 use Rattle.turn_model.specs.Resend.{passed1, passed2}
 use Rattle.turn_model.specs.SessionStep as Session
 use Rattle.turn_model.specs.SessionStep.{Planned, session_step}
-use Rattle.turn_model.specs.Step.{Setting, Outcome, reply, replies, Step, idle, replying, close_with, closing, closing_silently, breaking}
+use Rattle.turn_model.specs.Step.{Setting, Outcome, reply, replies, Step, idle, replying, close_with, closing}
+use Rattle.turn_model.specs.Step.{closing_silently, breaking}
 use Rattle.turn_model.specs.PublishStep.{publish_step, pubrel_step}
 use Rattle.turn_model.specs.Reasons as Reason
 
@@ -34,7 +38,14 @@ finished_by (c ∷ changes) = finishes c.effect + finished_by changes
 abbrev pub step_unless : Option ℕ → ℕ → Planned → Step
 step_unless (Some reason) conn p = closing conn reason p.rule
 step_unless None conn p =
-    record { groups = []; changes = p.changes; replies = replies p.replies; closes = []; effects = record no_effects { regained = finished_by p.changes } }
+    record {
+      groups = [];
+      changes = p.changes;
+      replies = replies p.replies;
+      closes = [];
+      effects =
+          record no_effects { regained = finished_by p.changes };
+    }
 
 abbrev pub planned_step : ℕ → Planned → Step
 planned_step conn p = step_unless p.close conn p
@@ -66,10 +77,12 @@ abbrev pub passed_or_none : ℕ → ℕ → ℕ
 passed_or_none mark passed = if passed == mark then 0 else passed
 
 abbrev pub puback_event : PlainConnection → PlainSession → AckFields → Session.Event
-puback_event k m a = Session.Puback (record { id = a.id; reason = a.reason; passed = passed_or_none m.acked (passed1 m k) })
+puback_event k m a = Session.Puback
+    (record { id = a.id; reason = a.reason; passed = passed_or_none m.acked (passed1 m k) })
 
 abbrev pub pubrec_event : PlainConnection → PlainSession → AckFields → Session.Event
-pubrec_event k m a = Session.Pubrec (record { id = a.id; reason = a.reason; passed = passed_or_none m.received (passed2 m k) })
+pubrec_event k m a = Session.Pubrec
+    (record { id = a.id; reason = a.reason; passed = passed_or_none m.received (passed2 m k) })
 
 abbrev pub ack_step : Setting → PlainConnection → PlainSession → AckKind → AckFields → List Outcome → Step
 ack_step s k m Puback a outcomes = event_step s k m (puback_event k m a)
@@ -88,7 +101,8 @@ breaks_interval m None = false
 breaks_interval m (Some expiry) = (m.expiry == 0) && nat_lt 0 expiry
 
 abbrev pub disconnect_step : PlainConnection → PlainSession → EndFields → Step
-disconnect_step k m d = if breaks_interval m (interval_of d) then breaking k.number Reason.rule_interval_from_0 else closing_silently k.number 0
+disconnect_step k m d = if breaks_interval m (interval_of d) then breaking k.number Reason.rule_interval_from_0
+    else closing_silently k.number 0
 
 -- ---- a packet
 
@@ -140,7 +154,8 @@ overdue now ks = in_order (map (λ (k : PlainConnection). k.number) (filter (is_
 abbrev pub ended_changes : ℕ → Sessions → List Change
 ended_changes now sessions = map (λ (m : PlainSession). change m.client Ended) (filter (is_over now) sessions.list)
 
--- the connections that were silent for too long are closed, in order of their numbers, and the sessions that are over end
+-- the connections that were silent for too long are closed, in order of their numbers, and the sessions that are over
+-- end
 abbrev pub tick_step : ℕ → List PlainConnection → Sessions → Step
 tick_step now connections sessions =
     record idle {

@@ -1,6 +1,6 @@
 -- Parts of a turn: what one call of a worker does, at an arrival and behind what it asked for.
-use Rattle.std.specs.Prelude.{ℕ, zero, suc, ◌+◌, max, Bool, true, false, ◌&&◌, not, ◌==◌, ◌%◌, nat_lt, if◌then◌else◌, List, [], ◌∷◌, ◌++◌, length, map, filter, slice_get, Option, Some, None, is_some}
-use Rattle.std.specs.List.{list_any}
+use Rattle.std.specs.Prelude.{ℕ, zero, suc, ◌+◌, max, Bool, true, false, ◌&&◌, not, ◌==◌, ◌%◌, nat_lt, if◌then◌else◌}
+use Rattle.std.specs.Prelude.{List, [], ◌∷◌, ◌++◌, length, map, filter, slice_get, Option, Some, None, is_some}
 use Rattle.topic_model.specs.Profile.{Profile, Config}
 use Rattle.shard_model.specs.ShardList.{ShardList, newest}
 use Rattle.shard_model.specs.SweepOrder.{counted_from}
@@ -13,14 +13,20 @@ use Rattle.session_model.specs.Change.{Issues}
 use Rattle.session_model.specs.Ends.{moment_of}
 use Rattle.mqtt_frame.specs.PlainFramer.{opening}
 use Rattle.mqtt_packet.specs.Packet.{Publish, PublishFields}
-use Rattle.turn_model.specs.PlainConnection.{PlainConnection, rest_of}
+use Rattle.turn_model.specs.PlainConnection.{PlainConnection, is_among, rest_of}
 use Rattle.turn_model.specs.Pump.{pump_of}
-use Rattle.turn_model.specs.Resend.{Resent, resent, Again, Publishes, again, packets_with, entries_with, pass_changes, issued_packets}
-use Rattle.turn_model.specs.Step.{Outcome, Kept, IsFull, AwaitsTooMany, Faulted, Close, Step, is_empty}
+use Rattle.turn_model.specs.Resend.{Resent, resend_of, Again, Publishes, again, packets_with, entries_with, pass_changes}
+use Rattle.turn_model.specs.Resend.{issued_packets}
+use Rattle.turn_model.specs.Step.{Outcome, Kept, IsFull, AwaitsTooMany, Faulted, Close, Step, is_nil}
 use Rattle.turn_model.specs.PacketStep.{tick_step}
 use Rattle.turn_model.specs.Worker.{Worker, PendingRecord, Closed, connection_in, session_in, sessions_of}
-use Rattle.turn_model.specs.WorkerMoves.{Emit, OfResend, OfPump, OfTick, Settle, Ending, by_client, silently, with_reason}
-use Rattle.turn_model.specs.Draft.{Draft, Part, Beside, Todo, Waiting, Failed, Token, Arrival, Opened, Bytes, ClosedByClient, Pump, Tick, ForBodies, ForDrop, After, AfterPublishes, AfterRelease, AfterBodies, AfterDrop, no_report, fresh_draft, part_of, is_going, reading_at, push, views_pushed, not_open, ended_with, own_bound_closed, own_unbound_closed, commit, committed_with_owed, put_out_answer}
+use Rattle.turn_model.specs.WorkerMoves.{Emit, OfResend, OfPump, OfTick, Settle, Ending, by_client, silently}
+use Rattle.turn_model.specs.WorkerMoves.{with_reason}
+use Rattle.turn_model.specs.Draft.{Draft, Part, Beside, Todo, Waiting, Failed, Token, Arrival, Opened, Bytes}
+use Rattle.turn_model.specs.Draft.{ClosedByClient, Pump, Tick, ForBodies, ForDrop, After, AfterPublishes, AfterRelease}
+use Rattle.turn_model.specs.Draft.{AfterBodies, AfterDrop, no_report, fresh_draft, part_of, is_going, reading_at, push}
+use Rattle.turn_model.specs.Draft.{views_pushed, not_open, ended_with, own_bound_closed, own_unbound_closed, commit}
+use Rattle.turn_model.specs.Draft.{committed_with_owed, put_out_answer}
 use Rattle.turn_model.specs.Pieces.{piece_taken, tokens_taken, packet_answered, group_asked}
 use Rattle.turn_model.specs.Reasons as Reason
 
@@ -45,7 +51,8 @@ is_cold_in (Some list) offset = is_cold list offset
 
 abbrev pub cold_places : List ShardList → ℕ → List Entry → List ℕ
 cold_places lists shard es =
-    map (λ (e : Entry). e.offset) (filter (λ (e : Entry). (e.shard == shard) && is_cold_in (slice_get lists shard) e.offset) es)
+    map (λ (e : Entry). e.offset)
+    (filter (λ (e : Entry). (e.shard == shard) && is_cold_in (slice_get lists shard) e.offset) es)
 
 abbrev pub is_loud : Kind → Bool
 is_loud Silent = false
@@ -67,26 +74,25 @@ abbrev pub or_places : ℕ → List ℕ → Option (ℕ × List ℕ) → Option 
 or_places shard [] later = later
 or_places shard (place ∷ places) later = Some (shard, place ∷ places)
 
-abbrev pub is_asked : ℕ → List ℕ → Bool
-is_asked shard shards = list_any (λ (s : ℕ). s == shard) shards
-
 abbrev pub first_cold : List ShardList → List ℕ → List Entry → List ℕ → Option (ℕ × List ℕ)
 first_cold lists asked es [] = None
 first_cold lists asked es (shard ∷ shards) =
-    or_places shard (if is_asked shard asked then [] else cold_places lists shard es) (first_cold lists asked es shards)
+    or_places shard (if is_among shard asked then [] else cold_places lists shard es) (first_cold lists asked es shards)
 
 module _ (profile : Profile) (config : Config) (now : ℕ) where
   -- ---- a pump
 
   abbrev pub passed_after : ℕ → Option PlainConnection → Option PlainSession → Draft → Draft
   passed_after conn (Some k) (Some m) d =
-      if is_empty (pass_changes m k) then d else committed_with_owed profile config now (OfPump conn None) (length (pass_changes m k)) d
+      if is_nil (pass_changes m k) then d
+      else committed_with_owed profile config now (OfPump conn None) (length (pass_changes m k)) d
   passed_after conn k m d = d
 
   -- what is sent again is put out, and then what was passed over above the marks is finished
   abbrev pub resent_out : ℕ → Resent → Draft → Draft
   resent_out conn r d =
-      let sent = push profile config now (Emit (OfResend conn) now) (record d { report = record d.report { sent = length (packets_with r.taken) } }) in
+      let sent = push profile config now (Emit (OfResend conn) now)
+      (record d { report = record d.report { sent = length (packets_with r.taken) } }) in
       passed_after conn (connection_in sent.worker conn) (session_in sent.worker conn) sent
 
   abbrev pub with_counts : ℕ → ℕ → Draft → Draft
@@ -99,13 +105,17 @@ module _ (profile : Profile) (config : Config) (now : ℕ) where
   abbrev pub issued_out : ℕ → PlainSession → PlainConnection → Issues → Draft → Draft
   issued_out conn m k b d =
       let done = committed_with_owed profile config now (OfPump conn (Some b)) (1 + length (pass_changes m k)) d in
-      put_out_answer profile config now conn (with_counts_if (is_going done.status) (length b.entries) (length (issued_packets now m d.worker.seen b.entries)) done)
+      put_out_answer profile config now conn
+      (with_counts_if (is_going done.status) (length b.entries)
+      (length (issued_packets now m d.worker.seen b.entries)) done)
 
   abbrev pub asking_bodies : List ℕ → ℕ × List ℕ → Draft → Draft
-  asking_bodies asked places d = record d { status = Waiting (ForBodies places.0 places.1) (AfterBodies (asked ++ places.0 ∷ [])) }
+  asking_bodies asked places d = record d
+      { status = Waiting (ForBodies places.0 places.1) (AfterBodies (asked ++ places.0 ∷ [])) }
 
   abbrev pub cold_of : List ℕ → List Entry → Draft → Option (ℕ × List ℕ)
-  cold_of asked es d = if profile.cools then first_cold d.worker.seen asked es (counted_from 0 (length d.worker.seen)) else None
+  cold_of asked es d = if profile.cools then first_cold d.worker.seen asked es (counted_from 0 (length d.worker.seen))
+      else None
 
   abbrev pub resend_unless : Option (ℕ × List ℕ) → List ℕ → ℕ → Resent → Draft → Draft
   resend_unless (Some places) asked conn r d = asking_bodies asked places d
@@ -122,8 +132,9 @@ module _ (profile : Profile) (config : Config) (now : ℕ) where
   -- what is left to be sent again goes first
   abbrev pub pump_taken_by : List ℕ → ℕ → PlainSession → PlainConnection → List Entry → Draft → Draft
   pump_taken_by asked conn m k (e ∷ es) d =
-      let r = resent profile now m k d.worker.seen in
-      resend_unless (cold_of asked (entries_published_again m k now d.worker.seen (entries_with r.taken)) d) asked conn r d
+      let r = resend_of profile now m k d.worker.seen in
+      resend_unless (cold_of asked (entries_published_again m k now d.worker.seen (entries_with r.taken)) d) asked conn
+      r d
   pump_taken_by asked conn m k [] d = issued_by asked conn m k (pump_of profile now m k d.worker.seen) d
 
   abbrev pub pump_taken_with : List ℕ → ℕ → Option PlainConnection → Option PlainSession → Draft → Draft
@@ -142,7 +153,8 @@ module _ (profile : Profile) (config : Config) (now : ℕ) where
 
   abbrev pub closes_made : List Close → Draft → Draft
   closes_made [] d = d
-  closes_made (close ∷ closes) d = closes_made closes (ended_with profile config now close.connection (ending_by close.reason) d)
+  closes_made (close ∷ closes) d = closes_made closes
+      (ended_with profile config now close.connection (ending_by close.reason) d)
 
   -- what a Tick does over the worker as it stands
   abbrev pub tick_over : Draft → Step
@@ -153,7 +165,7 @@ module _ (profile : Profile) (config : Config) (now : ℕ) where
   tick_commit_if false d = d
 
   abbrev pub are_over : Draft → Bool
-  are_over d = not (is_empty (tick_over d).changes)
+  are_over d = not (is_nil (tick_over d).changes)
 
   -- as many records as the sessions that are over take, behind the owed changes
   abbrev pub tick_commits : ℕ → Draft → Draft
@@ -185,7 +197,11 @@ module _ (profile : Profile) (config : Config) (now : ℕ) where
 
   abbrev pub connection_opened : ℕ → Draft → Draft
   connection_opened conn d =
-      record d { beside = record d.beside { readings = d.beside.readings ++ record { connection = conn; framer = opening profile.packet } ∷ [] } }
+      record d {
+        beside =
+            record d.beside
+            { readings = d.beside.readings ++ record { connection = conn; framer = opening profile.packet } ∷ [] };
+      }
 
   abbrev pub left_by_client : ℕ → Option PlainConnection → Draft → Draft
   left_by_client conn (Some k) d = ended_with profile config now conn by_client d
@@ -207,7 +223,8 @@ module _ (profile : Profile) (config : Config) (now : ℕ) where
 
   -- an arrival that isn't taken: its connection is closed
   abbrev pub arrival_refused_by : ℕ → Option PlainConnection → Draft → Draft
-  arrival_refused_by conn (Some k) d = own_bound_closed profile config now conn (with_reason Reason.implementation_error) 0 d
+  arrival_refused_by conn (Some k) d =
+      own_bound_closed profile config now conn (with_reason Reason.implementation_error) 0 d
   arrival_refused_by conn None d = own_unbound_closed conn 0 d
 
   abbrev pub arrival_refused : Arrival → Draft → Draft
@@ -259,7 +276,8 @@ module _ (profile : Profile) (config : Config) (now : ℕ) where
 
   -- the next publish that is asked by itself, or the tokens that are left
   abbrev pub gone_on : ℕ → List PublishFields → List Token → Draft → Draft
-  gone_on conn (p ∷ ps) tokens d = record (group_asked profile config now conn (p ∷ []) d) { singly = ps; rest = tokens }
+  gone_on conn (p ∷ ps) tokens d = record (group_asked profile config now conn (p ∷ []) d)
+      { singly = ps; rest = tokens }
   gone_on conn [] tokens d = tokens_taken profile config now conn tokens (record d { singly = []; rest = [] })
 
   abbrev pub gone_on_if : Bool → ℕ → List PublishFields → List Token → Draft → Draft
@@ -270,19 +288,20 @@ module _ (profile : Profile) (config : Config) (now : ℕ) where
   went_on conn todo d = gone_on_if (is_going d.status) conn todo.singly todo.rest d
 
   -- a refused group of several is asked again publish by publish
-  abbrev pub refused_publishes : ℕ → List PublishFields → Outcome → Todo → Draft → Draft
-  refused_publishes conn [] outcome todo d = went_on conn todo d
-  refused_publishes conn (p ∷ []) outcome todo d = went_on conn todo (packet_answered profile config now conn (Publish p) (outcome ∷ []) d)
-  refused_publishes conn (p ∷ q ∷ ps) outcome todo d = gone_on conn (p ∷ q ∷ ps) todo.rest d
+  abbrev pub refused_publishes : ℕ → PublishFields → List PublishFields → Outcome → Todo → Draft → Draft
+  refused_publishes conn p [] outcome todo d =
+      went_on conn todo (packet_answered profile config now conn (Publish p) (outcome ∷ []) d)
+  refused_publishes conn p (q ∷ ps) outcome todo d = gone_on conn (p ∷ q ∷ ps) todo.rest d
 
   abbrev pub own_closed_by_shard : ℕ → ℕ → Draft → Draft
-  own_closed_by_shard conn shard d = own_bound_closed profile config now conn (with_reason Reason.implementation_error) 0 (failed_shard shard d)
+  own_closed_by_shard conn shard d =
+      own_bound_closed profile config now conn (with_reason Reason.implementation_error) 0 (failed_shard shard d)
 
-  abbrev pub publishes_done : ℕ → ℕ → List PublishFields → Outcome → Todo → Draft → Draft
-  publishes_done conn shard ps (Kept acked) todo d = went_on conn todo (put_out_answer profile config now conn d)
-  publishes_done conn shard ps IsFull todo d = refused_publishes conn ps IsFull todo d
-  publishes_done conn shard ps AwaitsTooMany todo d = refused_publishes conn ps AwaitsTooMany todo d
-  publishes_done conn shard ps Faulted todo d = own_closed_by_shard conn shard d
+  abbrev pub publishes_done : ℕ → ℕ → PublishFields → List PublishFields → Outcome → Todo → Draft → Draft
+  publishes_done conn shard p ps (Kept acked) todo d = went_on conn todo (put_out_answer profile config now conn d)
+  publishes_done conn shard p ps IsFull todo d = refused_publishes conn p ps IsFull todo d
+  publishes_done conn shard p ps AwaitsTooMany todo d = refused_publishes conn p ps AwaitsTooMany todo d
+  publishes_done conn shard p ps Faulted todo d = own_closed_by_shard conn shard d
 
   abbrev pub release_done : ℕ → ℕ → Outcome → Todo → Draft → Draft
   release_done conn shard (Kept acked) todo d = went_on conn todo (put_out_answer profile config now conn d)
@@ -303,8 +322,10 @@ module _ (profile : Profile) (config : Config) (now : ℕ) where
 
   -- by what the call asked of this shard
   abbrev pub resumed_after : ℕ → Option ℕ → Option After → Response → Todo → Draft → Draft
-  resumed_after shard (Some conn) (Some (AfterPublishes ps)) answer todo d = publishes_done conn shard ps (outcome_in answer) todo d
-  resumed_after shard (Some conn) (Some (AfterRelease packet)) answer todo d = release_done conn shard (outcome_in answer) todo d
+  resumed_after shard (Some conn) (Some (AfterPublishes p ps)) answer todo d =
+      publishes_done conn shard p ps (outcome_in answer) todo d
+  resumed_after shard (Some conn) (Some (AfterRelease packet)) answer todo d =
+      release_done conn shard (outcome_in answer) todo d
   resumed_after shard (Some conn) (Some (AfterBodies shards)) answer todo d = bodies_done conn shard shards answer d
   resumed_after shard own (Some (AfterDrop shards)) answer todo d = drop_done shard shards answer d
   resumed_after shard own after answer todo d = d

@@ -1,5 +1,7 @@
--- The packets of a piece, one after another: consecutive publishes are joined in a group, consecutive acknowledgements in a record.
-use Rattle.std.specs.Prelude.{ℕ, ◌+◌, ◌/◌, Bool, true, false, ◌&&◌, ◌||◌, not, ◌==◌, nat_lt, if◌then◌else◌, List, [], ◌∷◌, ◌++◌, length, map, Option, Some, None, Result, Ok, Err}
+-- The packets of a piece, one after another: consecutive publishes are joined in a group, consecutive acknowledgements
+-- in a record.
+use Rattle.std.specs.Prelude.{ℕ, ◌+◌, ◌/◌, Bool, true, false, ◌&&◌, ◌||◌, not, ◌==◌, nat_lt, if◌then◌else◌, List, []}
+use Rattle.std.specs.Prelude.{◌∷◌, ◌++◌, length, map, Option, Some, None, Result, Ok, Err}
 use Rattle.topic_model.specs.Profile.{Profile, Config}
 use Rattle.session_model.specs.PlainSession.{PlainSession}
 use Rattle.mqtt_frame.specs.declared.refused.BadHeader.{BadHeader}
@@ -12,14 +14,18 @@ use Rattle.mqtt_packet.specs.declared.refused.ReadRefused.TheVariants.{Version, 
 use Rattle.mqtt_packet.specs.Packet.{PlainPacket, Connect, Publish, Ack, Disconnect, PublishFields, ConnectFields}
 use Rattle.mqtt_packet.specs.Answer.{answer}
 use Rattle.turn_model.specs.PlainConnection.{PlainConnection, packet_limit_of}
-use Rattle.turn_model.specs.Step.{Outcome, Close, Ask, Step, is_empty}
+use Rattle.turn_model.specs.Step.{Outcome, Close, Ask, Step, is_nil}
 use Rattle.turn_model.specs.PublishStep.{publish_case, is_asking, publish_group, joins}
 use Rattle.turn_model.specs.ConnectStep.{connect_refusal, connect_step}
 use Rattle.turn_model.specs.PacketStep.{packet_step, interval_of}
 use Rattle.turn_model.specs.Worker.{connection_in, session_in, are_sendable}
 use Rattle.turn_model.specs.laws.CarriedLaws.{stepped_on}
-use Rattle.turn_model.specs.WorkerMoves.{Emit, OfPacket, OfPackets, OfConnect, Bind, TakeOver, Ending, with_reason, silently, Stepped, not_stepped}
-use Rattle.turn_model.specs.Draft.{Draft, Status, Going, Waiting, Ended, Failed, Token, Whole, BadFront, EndOfPiece, OpenConnection, ForGroup, After, AfterPublishes, AfterRelease, is_going, with_framer, push, setting_in, not_open, own_bound_closed, own_unbound_closed, connect_refused, committed_with_owed, long_closed, put_out_answer}
+use Rattle.turn_model.specs.WorkerMoves.{Emit, OfPacket, OfPackets, OfConnect, Bind, TakeOver, Ending, with_reason}
+use Rattle.turn_model.specs.WorkerMoves.{silently, Stepped, not_stepped}
+use Rattle.turn_model.specs.Draft.{Draft, Status, Going, Waiting, Ended, Failed, Token, Whole, BadFront, EndOfPiece}
+use Rattle.turn_model.specs.Draft.{OpenConnection, ForGroup, After, AfterPublishes, AfterRelease, is_going, with_framer}
+use Rattle.turn_model.specs.Draft.{push, setting_in, not_open, own_bound_closed, own_unbound_closed, connect_refused}
+use Rattle.turn_model.specs.Draft.{committed_with_owed, long_closed, put_out_answer}
 use Rattle.turn_model.specs.Reasons as Reason
 
 -- ---- what a packet is read as
@@ -63,14 +69,17 @@ module _ (profile : Profile) (config : Config) (now : ℕ) where
   abbrev pub is_short_answer : PlainConnection → Step → Bool
   is_short_answer k step = are_sendable k.packet_limit step.replies
 
-  abbrev pub packet_answered_with : ℕ → PlainPacket → List Outcome → Option PlainConnection → Option PlainSession → Draft → Draft
+  abbrev pub packet_answered_with : ℕ → PlainPacket → List Outcome → Option PlainConnection → Option PlainSession →
+      Draft → Draft
   packet_answered_with conn packet outcomes (Some k) (Some m) d =
-      long_closed profile config now (is_short_answer k (packet_step (setting_in profile config now d) k m packet outcomes)) conn
+      long_closed profile config now
+      (is_short_answer k (packet_step (setting_in profile config now d) k m packet outcomes)) conn
       (push profile config now (Emit (OfPacket conn packet outcomes) now) d)
   packet_answered_with conn packet outcomes k m d = d
 
   abbrev pub packet_answered_if : Bool → ℕ → PlainPacket → List Outcome → Draft → Draft
-  packet_answered_if true conn packet outcomes d = packet_answered_with conn packet outcomes (connection_in d.worker conn) (session_in d.worker conn) d
+  packet_answered_if true conn packet outcomes d =
+      packet_answered_with conn packet outcomes (connection_in d.worker conn) (session_in d.worker conn) d
   packet_answered_if false conn packet outcomes d = d
 
   abbrev pub packet_answered : ℕ → PlainPacket → List Outcome → Draft → Draft
@@ -83,11 +92,13 @@ module _ (profile : Profile) (config : Config) (now : ℕ) where
   -- packets of which none changes anything take no record
   abbrev pub acks_recorded : ℕ → List PlainPacket → Stepped → Draft → Draft
   acks_recorded conn packets st d =
-      if is_empty st.changes then packets_answered conn packets d
-      else put_out_answer profile config now conn (committed_with_owed profile config now (OfPackets conn packets) (length st.changes) d)
+      if is_nil st.changes then packets_answered conn packets d
+      else put_out_answer profile config now conn
+      (committed_with_owed profile config now (OfPackets conn packets) (length st.changes) d)
 
   abbrev pub acks_closed_with : ℕ → Option PlainConnection → Option PlainSession → Draft → Draft
-  acks_closed_with conn (Some k) (Some m) d = record (acks_recorded conn d.acks (stepped_or m d.stepped) d) { acks = []; stepped = None }
+  acks_closed_with conn (Some k) (Some m) d =
+      record (acks_recorded conn d.acks (stepped_or m d.stepped) d) { acks = []; stepped = None }
   acks_closed_with conn k m d = record d { acks = []; stepped = None }
 
   abbrev pub acks_closed_if : Bool → ℕ → Draft → Draft
@@ -96,23 +107,25 @@ module _ (profile : Profile) (config : Config) (now : ℕ) where
 
   -- the record that is open is committed, and what it answers is put out
   abbrev pub acks_closed : ℕ → Draft → Draft
-  acks_closed conn d = acks_closed_if (is_empty d.acks) conn d
+  acks_closed conn d = acks_closed_if (is_nil d.acks) conn d
 
   -- ---- the group that is open
 
   abbrev pub waiting_for : Ask → After → Draft → Draft
   waiting_for ask after d = record d { status = Waiting (ForGroup ask.shard ask.ops) after }
 
-  abbrev pub group_asked_with : ℕ → List PublishFields → Option PlainSession → Draft → Draft
-  group_asked_with conn ps None d = d
-  group_asked_with conn ps (Some m) d = waiting_for (publish_group (setting_in profile config now d) m ps) (AfterPublishes ps) d
+  abbrev pub group_asked_with : ℕ → PublishFields → List PublishFields → Option PlainSession → Draft → Draft
+  group_asked_with conn p ps None d = d
+  group_asked_with conn p ps (Some m) d =
+      waiting_for (publish_group (setting_in profile config now d) m (p ∷ ps)) (AfterPublishes p ps) d
 
   abbrev pub group_asked : ℕ → List PublishFields → Draft → Draft
-  group_asked conn ps d = group_asked_with conn ps (session_in d.worker conn) d
+  group_asked conn [] d = d
+  group_asked conn (p ∷ ps) d = group_asked_with conn p ps (session_in d.worker conn) d
 
   -- the group that is open is asked of its shard
   abbrev pub group_closed : ℕ → Draft → Draft
-  group_closed conn d = if is_empty d.group then d else record (group_asked conn d.group d) { group = [] }
+  group_closed conn d = record (group_asked conn d.group d) { group = [] }
 
   abbrev pub group_closed_if : Bool → ℕ → Draft → Draft
   group_closed_if true conn d = group_closed conn d
@@ -125,7 +138,7 @@ module _ (profile : Profile) (config : Config) (now : ℕ) where
 
   abbrev pub goes_on_with : Option PlainConnection → Option PlainSession → PlainPacket → Draft → Bool
   goes_on_with (Some k) (Some m) (Publish p) d = joins (setting_in profile config now d) k m d.group p
-  goes_on_with (Some k) (Some m) packet d = is_joinable packet && is_empty d.group
+  goes_on_with (Some k) (Some m) packet d = is_joinable packet && is_nil d.group
   goes_on_with k m packet d = false
 
   abbrev pub goes_on_as : ℕ → ReadAs → Draft → Bool
@@ -134,7 +147,7 @@ module _ (profile : Profile) (config : Config) (now : ℕ) where
 
   -- a publish only where no record is open
   abbrev pub is_open_for : PlainPacket → Draft → Bool
-  is_open_for packet d = is_joinable packet || is_empty d.acks
+  is_open_for packet d = is_joinable packet || is_nil d.acks
 
   abbrev pub fits_open : ReadAs → Draft → Bool
   fits_open (Closes reason rule) d = false
@@ -162,8 +175,9 @@ module _ (profile : Profile) (config : Config) (now : ℕ) where
   packet_done conn packet step (close ∷ closes) groups d = closed_by conn packet close d
   packet_done conn packet step [] (ask ∷ asks) d = waiting_for ask (AfterRelease packet) d
   packet_done conn packet step [] [] d =
-      if is_empty step.changes then packet_answered conn packet [] d
-      else put_out_answer profile config now conn (committed_with_owed profile config now (OfPackets conn (packet ∷ [])) (length step.changes) d)
+      if is_nil step.changes then packet_answered conn packet [] d
+      else put_out_answer profile config now conn
+      (committed_with_owed profile config now (OfPackets conn (packet ∷ [])) (length step.changes) d)
 
   abbrev pub step_done : ℕ → PlainPacket → Step → Draft → Draft
   step_done conn packet step d = packet_done conn packet step step.closes step.groups d
@@ -183,16 +197,20 @@ module _ (profile : Profile) (config : Config) (now : ℕ) where
   acks_unless false conn d = acks_closed conn d
 
   abbrev pub close_after : ℕ → PlainPacket → Close → Draft → Draft
-  close_after conn packet close d = elim (d.status) as (λ s. Draft) [ Going ↦ closed_by conn packet close d | Waiting r a ↦ d | Ended ↦ d | Failed ↦ d ]
+  close_after conn packet close d = elim (d.status) as
+      (λ s. Draft) [ Going ↦ closed_by conn packet close d | Waiting r a ↦ d | Ended ↦ d | Failed ↦ d ]
 
   abbrev pub is_full_with : Draft → Stepped → Step → Bool
-  is_full_with d st step = not (is_empty st.changes) && nat_lt profile.changes (length d.worker.owed + (length st.changes + length step.changes))
+  is_full_with d st step = not (is_nil st.changes)
+      && nat_lt profile.changes (length d.worker.owed + (length st.changes + length step.changes))
 
   abbrev pub joined_to : ℕ → PlainPacket → Stepped → Draft → Draft
-  joined_to conn packet st d = acks_unless profile.joins conn (record d { acks = d.acks ++ packet ∷ []; stepped = Some st })
+  joined_to conn packet st d = acks_unless profile.joins conn
+      (record d { acks = d.acks ++ packet ∷ []; stepped = Some st })
 
   abbrev pub joined_with : ℕ → PlainPacket → Option PlainConnection → Option PlainSession → Draft → Draft
-  joined_with conn packet (Some k) (Some m) d = joined_to conn packet (stepped_on (setting_in profile config now d) k packet (stepped_or m d.stepped)) d
+  joined_with conn packet (Some k) (Some m) d =
+      joined_to conn packet (stepped_on (setting_in profile config now d) k packet (stepped_or m d.stepped)) d
   joined_with conn packet k m d = d
 
   abbrev pub joined_if : Bool → ℕ → PlainPacket → Draft → Draft
@@ -202,19 +220,23 @@ module _ (profile : Profile) (config : Config) (now : ℕ) where
   abbrev pub receipt_taken_with : ℕ → PlainPacket → Stepped → Step → List Close → Draft → Draft
   receipt_taken_with conn packet st step (close ∷ closes) d = close_after conn packet close (acks_closed conn d)
   receipt_taken_with conn packet st step [] d =
-      let ready = acks_unless (not (is_full_with d st step)) conn d in joined_if (is_going ready.status) conn packet ready
+      let ready = acks_unless (not (is_full_with d st step)) conn d in
+      joined_if (is_going ready.status) conn packet ready
 
   abbrev pub receipt_taken : ℕ → PlainConnection → PlainPacket → Stepped → Draft → Draft
   receipt_taken conn k packet st d =
-      let step = packet_step (setting_in profile config now d) k st.session packet [] in receipt_taken_with conn packet st step step.closes d
+      let step = packet_step (setting_in profile config now d) k st.session packet [] in
+      receipt_taken_with conn packet st step step.closes d
 
   abbrev pub packet_taken_as : Bool → ℕ → PlainConnection → PlainSession → PlainPacket → Draft → Draft
   packet_taken_as true conn k m packet d = receipt_taken conn k packet (stepped_or m d.stepped) d
-  packet_taken_as false conn k m packet d = step_done conn packet (packet_step (setting_in profile config now d) k m packet []) d
+  packet_taken_as false conn k m packet d =
+      step_done conn packet (packet_step (setting_in profile config now d) k m packet []) d
 
   abbrev pub packet_taken_kind : ℕ → PlainConnection → PlainSession → PlainPacket → Draft → Draft
   packet_taken_kind conn k m (Publish p) d =
-      publish_taken conn p (is_asking (publish_case (setting_in profile config now d) k.held m p)) (packet_step (setting_in profile config now d) k m (Publish p) []) d
+      publish_taken conn p (is_asking (publish_case (setting_in profile config now d) k.held m p))
+      (packet_step (setting_in profile config now d) k m (Publish p) []) d
   packet_taken_kind conn k m packet d = packet_taken_as (is_joinable packet) conn k m packet d
 
   -- one that goes on with the group needs no case of its own
@@ -224,7 +246,7 @@ module _ (profile : Profile) (config : Config) (now : ℕ) where
   packet_taken_if false conn k m packet d = packet_taken_kind conn k m packet d
 
   abbrev pub packet_taken : ℕ → Option PlainConnection → Option PlainSession → PlainPacket → Draft → Draft
-  packet_taken conn (Some k) (Some m) packet d = packet_taken_if (not (is_empty d.group)) conn k m packet d
+  packet_taken conn (Some k) (Some m) packet d = packet_taken_if (not (is_nil d.group)) conn k m packet d
   packet_taken conn k m packet d = d
 
   abbrev pub bound_taken : ℕ → ReadAs → Draft → Draft
@@ -239,10 +261,12 @@ module _ (profile : Profile) (config : Config) (now : ℕ) where
   -- the connection that the client had is taken over first
   abbrev pub takeovers_pushed : List Close → Draft → Draft
   takeovers_pushed [] d = d
-  takeovers_pushed (close ∷ closes) d = takeovers_pushed closes (not_open close.connection (push profile config now (TakeOver close.connection) d))
+  takeovers_pushed (close ∷ closes) d =
+      takeovers_pushed closes (not_open close.connection (push profile config now (TakeOver close.connection) d))
 
   abbrev pub connect_bound_if : Bool → ℕ → List Close → Draft → Draft
-  connect_bound_if true conn closes d = put_out_answer profile config now conn (bind_pushed conn (takeovers_pushed closes d))
+  connect_bound_if true conn closes d =
+      put_out_answer profile config now conn (bind_pushed conn (takeovers_pushed closes d))
   connect_bound_if false conn closes d = d
 
   abbrev pub connect_bound : ℕ → List Close → Draft → Draft
@@ -250,11 +274,13 @@ module _ (profile : Profile) (config : Config) (now : ℕ) where
 
   abbrev pub connect_taken_unless : Option ℕ → ℕ → ConnectFields → Step → Draft → Draft
   connect_taken_unless (Some reason) conn c step d = connect_refused (packet_limit_of c.props) conn reason 0 d
-  connect_taken_unless None conn c step d = connect_bound conn step.closes (committed_with_owed profile config now (OfConnect conn c) (length step.changes) d)
+  connect_taken_unless None conn c step d =
+      connect_bound conn step.closes (committed_with_owed profile config now (OfConnect conn c) (length step.changes) d)
 
   abbrev pub connect_taken : ℕ → ConnectFields → Draft → Draft
   connect_taken conn c d =
-      connect_taken_unless (connect_refusal (setting_in profile config now d) c) conn c (connect_step (setting_in profile config now d) c) d
+      connect_taken_unless (connect_refusal (setting_in profile config now d) c) conn c
+      (connect_step (setting_in profile config now d) c) d
 
   abbrev pub first_packet : ℕ → PlainPacket → Draft → Draft
   first_packet conn (Connect c) d = connect_taken conn c d
@@ -276,7 +302,8 @@ module _ (profile : Profile) (config : Config) (now : ℕ) where
 
   -- one that is no CONNECT closes the connection, and nothing is written
   abbrev pub first_taken : ℕ → List ℕ → Draft → Draft
-  first_taken conn bytes d = if is_connect bytes then first_read conn (answer bytes) d else own_unbound_closed conn Reason.rule_no_connect d
+  first_taken conn bytes d = if is_connect bytes then first_read conn (answer bytes) d
+      else own_unbound_closed conn Reason.rule_no_connect d
 
   -- ---- a token
 
@@ -328,7 +355,8 @@ module _ (profile : Profile) (config : Config) (now : ℕ) where
 
   abbrev pub fed_taken : ℕ → Fed → Draft → Draft
   fed_taken conn f d =
-      tokens_taken conn (tokens_of f) (record d { beside = record d.beside { readings = with_framer conn f.framer d.beside.readings } })
+      tokens_taken conn (tokens_of f)
+      (record d { beside = record d.beside { readings = with_framer conn f.framer d.beside.readings } })
 
   abbrev pub piece_taken : ℕ → List ℕ → Option OpenConnection → Draft → Draft
   piece_taken conn piece None d = d

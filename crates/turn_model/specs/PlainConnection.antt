@@ -1,5 +1,6 @@
 -- A connection that is bound to a client's session.
-use Rattle.std.specs.Prelude.{ℕ, ◌+◌, min, Bool, ◌&&◌, not, ◌==◌, List, [], ◌∷◌, ◌++◌, filter, find, Option, Some, None, if◌then◌else◌}
+use Rattle.std.specs.Prelude.{ℕ, ◌+◌, min, Bool, ◌&&◌, not, ◌==◌, List, [], ◌∷◌, ◌++◌, filter, find, Option, Some, None}
+use Rattle.std.specs.Prelude.{if◌then◌else◌}
 use Rattle.std.specs.List.{list_any}
 use Rattle.std.specs.Str.{bytes_eq}
 use Rattle.session_model.specs.declared.entry.Entry.{Entry}
@@ -11,18 +12,19 @@ use Rattle.mqtt_props.specs.declared.prop.Prop.{Prop}
 use Rattle.mqtt_props.specs.Lookup.{first_of, two_in, four_in, or_default}
 use Rattle.mqtt_packet.specs.Packet.{ConnectFields}
 
--- What is still to be sent of the messages that were retained when a subscription was made (MQTT 3.3.1.3): none, as such messages aren't
--- kept yet.
+-- What is still to be sent of the messages that were retained when a subscription was made (MQTT 3.3.1.3): none, as
+-- such messages aren't kept yet.
 pub record Recall : Type 0 where
   pub filter : List (List ℕ)
   pub options : ℕ
   pub identifier : ℕ
   pub after : Option (List ℕ)
 
--- Its number; its client, and the number of the session that it is bound to; how many more messages above QoS 0 may be under way, and how many at its start (MQTT 4.9); the longest packet
--- that its client takes (MQTT 3.1.2.11.4); its Keep Alive in seconds (MQTT 3.1.2.10), and the moment of its last packet; the identifiers
--- of QoS 2 that it holds (MQTT 4.3.3); what is still to be sent again, in order, and what of that was passed over; what is to be recalled;
--- and the subscription and shard that a pump served last.
+-- Its number; its client, and the number of the session that it is bound to; how many more messages above QoS 0 may be
+-- under way, and how many at its start (MQTT 4.9); the longest packet that its client takes (MQTT 3.1.2.11.4); its Keep
+-- Alive in seconds (MQTT 3.1.2.10), and the moment of its last packet; the identifiers of QoS 2 that it holds (MQTT
+-- 4.3.3); what is still to be sent again, in order, and what of that was passed over; what is to be recalled; and the
+-- subscription and shard that a pump served last.
 pub record PlainConnection : Type 0 where
   pub number : ℕ
   pub client : List ℕ
@@ -86,21 +88,22 @@ on_connection number f (k ∷ ks) = changed_if (k.number == number) f k ∷ on_c
 
 -- ---- what packets do to it
 
-abbrev pub is_held : ℕ → List ℕ → Bool
-is_held id held = list_any (λ (h : ℕ). h == id) held
+-- a number is one of these
+abbrev pub is_among : ℕ → List ℕ → Bool
+is_among number numbers = list_any (λ (n : ℕ). n == number) numbers
 
 abbrev pub with_held : ℕ → List ℕ → List ℕ
-with_held id held = if is_held id held then held else held ++ id ∷ []
+with_held id held = if is_among id held then held else held ++ id ∷ []
 
 abbrev pub all_held : List ℕ → List ℕ → List ℕ
 all_held [] held = held
 all_held (id ∷ ids) held = all_held ids (with_held id held)
 
 abbrev pub without_held : List ℕ → List ℕ → List ℕ
-without_held freed held = filter (λ (h : ℕ). not (is_held h freed)) held
+without_held freed held = filter (λ (h : ℕ). not (is_among h freed)) held
 
--- What packets do to their connection: how many messages they finish, which give back as much of the quota, never above its start (MQTT
--- 4.9); identifiers of QoS 2 that it holds from then on, and those that it no longer does.
+-- What packets do to their connection: how many messages they finish, which give back as much of the quota, never above
+-- its start (MQTT 4.9); identifiers of QoS 2 that it holds from then on, and those that it no longer does.
 pub record Effects : Type 0 where
   pub regained : ℕ
   pub held : List ℕ
@@ -115,7 +118,12 @@ both_effects a b = record { regained = a.regained + b.regained; held = a.held ++
 -- and it is the moment of its last packet
 abbrev pub after_packets : Effects → ℕ → PlainConnection → PlainConnection
 after_packets e now k =
-    record k { quota = min k.quota_start (k.quota + e.regained); held = all_held e.held (without_held e.freed k.held); last = now }
+    record k {
+      quota = min k.quota_start (k.quota + e.regained);
+      held = all_held e.held (without_held e.freed k.held);
+      last =
+          now;
+    }
 
 -- ---- what is to be sent again
 

@@ -1,6 +1,7 @@
--- PUBLISH and PUBREL (MQTT 3.3, 3.6): what a publish is answered without a shard, the group that several ask for, and how its outcome
--- is answered.
-use Rattle.std.specs.Prelude.{ℕ, Bool, true, false, ◌&&◌, ◌||◌, not, ◌==◌, nat_le, nat_lt, if◌then◌else◌, List, [], ◌∷◌, ◌++◌, length, map, filter, take, min, slice_get, Option, Some, None, is_some}
+-- PUBLISH and PUBREL (MQTT 3.3, 3.6): what a publish is answered without a shard, the group that several ask for, and
+-- how its outcome is answered.
+use Rattle.std.specs.Prelude.{ℕ, Bool, true, false, ◌&&◌, ◌||◌, not, ◌==◌, nat_le, nat_lt, if◌then◌else◌, List, [], ◌∷◌}
+use Rattle.std.specs.Prelude.{◌++◌, length, map, filter, take, min, slice_get, Option, Some, None, is_some}
 use Rattle.std.specs.List.{list_any, sum_by}
 use Rattle.std.specs.Str.{bytes_eq}
 use Rattle.topic_model.specs.Profile.{Profile}
@@ -10,7 +11,8 @@ use Rattle.topic_model.specs.Texts.{has_many_levels}
 use Rattle.topic_model.specs.Routing.{shard_of, routed_worker}
 use Rattle.topic_model.specs.StoredMessage.{StoredMessage}
 use Rattle.shard_model.specs.ShardList.{ShardList, Awaited, next_of}
-use Rattle.shard_model.specs.Storing.{Op, Store, Release, Forget, awaits, acts, act_if, is_of, placed, triple_of, is_message_of}
+use Rattle.shard_model.specs.Storing.{Op, Store, Release, Forget, awaits, acts, act_if, is_of, placed, triple_of}
+use Rattle.shard_model.specs.Storing.{is_message_of}
 use Rattle.shard_model.specs.Capacity.{store_size}
 use Rattle.session_model.specs.PlainSession.{PlainSession, Sessions}
 use Rattle.mqtt_props.specs.declared.table.TheConstants.{MESSAGE_EXPIRY_INTERVAL, TOPIC_ALIAS}
@@ -18,8 +20,9 @@ use Rattle.mqtt_props.specs.Lookup.{first_of, two_in, four_in, var_in, forwarded
 use Rattle.mqtt_props.specs.Props.{spelled_bare}
 use Rattle.mqtt_packet.specs.declared.packet.AckKind.TheVariants.{Puback, Pubrec, Pubcomp}
 use Rattle.mqtt_packet.specs.Packet.{PlainPacket, PublishFields, ack}
-use Rattle.turn_model.specs.PlainConnection.{PlainConnection, Effects, no_effects, is_held}
-use Rattle.turn_model.specs.Step.{Setting, Ask, Outcome, Kept, IsFull, AwaitsTooMany, Faulted, Reply, reply, Step, asking, replying, closing}
+use Rattle.turn_model.specs.PlainConnection.{PlainConnection, Effects, no_effects, is_among}
+use Rattle.turn_model.specs.Step.{Setting, Ask, Outcome, Kept, IsFull, AwaitsTooMany, Faulted, Reply, reply, Step}
+use Rattle.turn_model.specs.Step.{asking, replying, closing}
 use Rattle.turn_model.specs.Reasons as Reason
 
 -- ---- the shard of a client, as its worker has seen it
@@ -37,7 +40,8 @@ is_awaited s m id = awaits_in (slice_get s.seen (shard_for s m)) m id
 
 -- ---- what a publish is answered without a shard
 
--- It closes with a reason and a rule; it was stored before, and is acknowledged again; it is refused with a reason; or it is to be stored.
+-- It closes with a reason and a rule; it was stored before, and is acknowledged again; it is refused with a reason; or
+-- it is to be stored.
 pub data PublishCase : Type 0 where
   Closes : ℕ → ℕ → PublishCase
   Repeats : PublishCase
@@ -49,7 +53,7 @@ is_2 p = p.qos == 2
 
 -- an identifier that isn't held where as many are held as may be
 abbrev pub has_no_held_place : Profile → List ℕ → PublishFields → Bool
-has_no_held_place profile held p = is_2 p && (not (is_held p.id held) && nat_le profile.held (length held))
+has_no_held_place profile held p = is_2 p && (not (is_among p.id held) && nat_le profile.held (length held))
 
 -- the first that holds, where these identifiers are held (MQTT 3.3.2, 3.3.4, 4.3.3)
 abbrev pub publish_case : Setting → List ℕ → PlainSession → PublishFields → PublishCase
@@ -61,7 +65,8 @@ publish_case s held m p =
     else if has_no_held_place s.profile held p then Closes Reason.receive_maximum_exceeded 0
     else if is_2 p && is_awaited s m p.id then Repeats
     else if begins_with 0x24 p.topic || has_many_levels p.topic then Refuses Reason.bad_topic_name
-    else if not s.profile.expires && is_some (first_of (four_in MESSAGE_EXPIRY_INTERVAL) p.props) then Refuses Reason.implementation_error
+    else if not s.profile.expires && is_some (first_of (four_in MESSAGE_EXPIRY_INTERVAL) p.props)
+    then Refuses Reason.implementation_error
     else Asks
 
 -- ---- the message, and the group
@@ -84,7 +89,8 @@ published_message m p =
 
 -- The publisher's session is among these.
 abbrev pub is_live_session : Sessions → Awaited → Bool
-is_live_session sessions a = list_any (λ (m : PlainSession). bytes_eq m.client a.publisher && (m.incarnation == a.incarnation)) sessions.list
+is_live_session sessions a = list_any
+    (λ (m : PlainSession). bytes_eq m.client a.publisher && (m.incarnation == a.incarnation)) sessions.list
 
 abbrev pub is_owed_forget : Setting → Awaited → Bool
 is_owed_forget s a = (routed_worker a.publisher s.config.workers == s.worker) && not (is_live_session s.committed a)
@@ -104,8 +110,8 @@ abbrev pub forgets_in : Setting → Option ShardList → List Op
 forgets_in s None = []
 forgets_in s (Some list) = map forget (take s.profile.forgets (each_once (filter (is_owed_forget s) list.awaited)))
 
--- The Forgets that a group to this shard begins with: of clients of this worker whose sessions are gone, in the order in
--- which they came to be awaited. An end that is owed and not committed yet waits, as a crash would forget it.
+-- The Forgets that a group to this shard begins with: of clients of this worker whose sessions are gone, in the order
+-- in which they came to be awaited. An end that is owed and not committed yet waits, as a crash would forget it.
 abbrev pub owed_forgets : Setting → ℕ → List Op
 owed_forgets s shard = if s.profile.forgets_too then forgets_in s (slice_get s.seen shard) else []
 
@@ -117,7 +123,8 @@ abbrev pub publish_group : Setting → PlainSession → List PublishFields → A
 publish_group s m ps = record { shard = shard_for s m; ops = owed_forgets s (shard_for s m) ++ map (store_of m) ps }
 
 abbrev pub release_group : Setting → PlainSession → ℕ → Ask
-release_group s m id = record { shard = shard_for s m; ops = owed_forgets s (shard_for s m) ++ Release m.client m.incarnation id ∷ [] }
+release_group s m id =
+    record { shard = shard_for s m; ops = owed_forgets s (shard_for s m) ++ Release m.client m.incarnation id ∷ [] }
 
 -- ---- which publishes go together
 
@@ -137,12 +144,13 @@ most_publishes s = min s.profile.group s.config.messages
 abbrev pub group_bytes : PlainSession → List PublishFields → ℕ
 group_bytes m ps = sum_by (λ (p : PublishFields). store_size (published_message m p)) ps
 
--- One more publish joins a group: it is to be stored too, its identifier isn't among theirs, and the group stays within its limits.
+-- One more publish joins a group: it is to be stored too, its identifier isn't among theirs, and the group stays within
+-- its limits.
 abbrev pub joins : Setting → PlainConnection → PlainSession → List PublishFields → PublishFields → Bool
 joins s k m group p =
     s.profile.joins
     && (is_asking (publish_case s (k.held ++ ids_of group) m p)
-    && (not (is_2 p && is_held p.id (ids_of group))
+    && (not (is_2 p && is_among p.id (ids_of group))
     && (nat_lt (length group) (most_publishes s) && nat_le (group_bytes m (group ++ p ∷ [])) s.profile.group_bytes)))
 
 abbrev pub join_all : Setting → PlainConnection → PlainSession → List PublishFields → List PublishFields → Bool
@@ -180,7 +188,8 @@ last_of (w ∷ v ∷ ws) = last_of (v ∷ ws)
 
 abbrev pub last_stored : PlainSession → ℕ → Option ShardList → Option StoredMessage
 last_stored m id None = None
-last_stored m id (Some list) = last_of (filter (is_message_of (record { publisher = m.client; incarnation = m.incarnation; id = id })) list.messages)
+last_stored m id (Some list) = last_of
+    (filter (is_message_of (record { publisher = m.client; incarnation = m.incarnation; id = id })) list.messages)
 
 abbrev pub with_shard : ℕ → Option StoredMessage → Option (ℕ × StoredMessage)
 with_shard shard None = None
@@ -228,7 +237,8 @@ pubrel_by_outcome k id other = closing k.number Reason.implementation_error 0
 
 -- a message is released once; any other identifier isn't known (MQTT 3.7.2.1)
 abbrev pub pubrel_step : Setting → PlainConnection → PlainSession → ℕ → List Outcome → Step
-pubrel_step s k m id [] = if is_awaited s m id then asking (release_group s m id) else completion_step id Reason.no_packet_identifier
+pubrel_step s k m id [] = if is_awaited s m id then asking (release_group s m id)
+    else completion_step id Reason.no_packet_identifier
 pubrel_step s k m id (outcome ∷ outcomes) = pubrel_by_outcome k id outcome
 
 -- ---- what a stored group acknowledges
@@ -242,8 +252,10 @@ standing_for false list now w = last_of (filter (is_message_of (triple_of w)) li
 abbrev pub stored_messages : ShardList → List Op → ℕ → List (Option StoredMessage)
 stored_messages list [] now = []
 stored_messages list (Store w ∷ ops) now =
-    standing_for (acts list (Store w)) list now w ∷ stored_messages (act_if (acts list (Store w)) now list (Store w)) ops now
+    standing_for (acts list (Store w)) list now w
+    ∷ stored_messages (act_if (acts list (Store w)) now list (Store w)) ops now
 stored_messages list (Release publisher incarnation id ∷ ops) now =
-    stored_messages (act_if (acts list (Release publisher incarnation id)) now list (Release publisher incarnation id)) ops now
+    stored_messages (act_if (acts list (Release publisher incarnation id)) now list (Release publisher incarnation id))
+    ops now
 stored_messages list (Forget publisher incarnation ∷ ops) now =
     stored_messages (act_if (acts list (Forget publisher incarnation)) now list (Forget publisher incarnation)) ops now

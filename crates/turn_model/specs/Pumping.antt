@@ -17,7 +17,17 @@ use Rattle.turn_model.specs.Counting.{CountsIssued, issued_to}
 -- a session and its connection at a moment, with a pair of a live subscription and a shard, and this list of the shard
 abbrev pub issuing_pair : PlainSession → PlainConnection → ℕ → Pair → Version → ShardList → Issuing
 issuing_pair m k now p v list =
-    record { session = m; connection = k; now = now; subscription = p.subscription; version = v; shard = p.shard; start = p.start; list = list }
+    record {
+      session = m;
+      connection = k;
+      now = now;
+      subscription = p.subscription;
+      version = v;
+      shard =
+          p.shard;
+      start = p.start;
+      list = list;
+    }
 
 -- the list of a pair's shard is in order, and the pair's sweep is in order and counts what was issued
 pub record IsReady (profile : Profile) (i : Issuing) (p : Pair) : Type 0 where
@@ -28,11 +38,13 @@ pub record IsReady (profile : Profile) (i : Issuing) (p : Pair) : Type 0 where
 -- each pair of a live subscription and a shard is
 abbrev pub AreReady : Profile → ℕ → PlainSession → PlainConnection → List ShardList → Type 0
 AreReady profile now m k lists =
-    (p : Pair) (v : Version) (list : ShardList) → HasPlace (pairs_of m) p → slice_get lists p.shard ≡ Some list → version_numbered p.subscription.version m ≡ Some v →
+    (p : Pair) (v : Version) (list : ShardList) → HasPlace (pairs_of m) p → slice_get lists p.shard ≡ Some list →
+    version_numbered p.subscription.version m ≡ Some v →
     IsReady profile (issuing_pair m k now p v list) p
 
 -- A batch of one of the pairs: it may be issued, and the sweep behind it is in order and counts what is issued then.
-pub record IsPumped (profile : Profile) (now : ℕ) (m : PlainSession) (k : PlainConnection) (lists : List ShardList) (b : Issues) : Type 0 where
+pub record IsPumped (profile : Profile) (now : ℕ) (m : PlainSession) (k : PlainConnection) (lists : List ShardList)
+    (b : Issues) : Type 0 where
   pub pair : Pair
   pub version : Version
   pub list : ShardList
@@ -47,5 +59,7 @@ pub record IsPumped (profile : Profile) (now : ℕ) (m : PlainSession) (k : Plai
 -- each message that a pair wants was issued
 abbrev pub AllIssued : ℕ → PlainSession → PlainConnection → List ShardList → Type 0
 AllIssued now m k lists =
-    (p : Pair) (v : Version) (list : ShardList) → HasPlace (pairs_of m) p → slice_get lists p.shard ≡ Some list → version_numbered p.subscription.version m ≡ Some v →
-    (w : StoredMessage) → HasPlace (wanted_by (issuing_pair m k now p v list)) w → was_issued (issuing_pair m k now p v list) w.offset ≡ true
+    (p : Pair) (v : Version) (list : ShardList) → HasPlace (pairs_of m) p → slice_get lists p.shard ≡ Some list →
+    version_numbered p.subscription.version m ≡ Some v →
+    (w : StoredMessage) → HasPlace (wanted_by (issuing_pair m k now p v list)) w →
+    was_issued (issuing_pair m k now p v list) w.offset ≡ true

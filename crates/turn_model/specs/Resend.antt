@@ -1,6 +1,6 @@
 -- What is sent again on a connection (MQTT 4.4), and what is passed over.
-use Rattle.std.specs.Prelude.{ℕ, zero, suc, ◌+◌, ◌-◌, Bool, true, false, ◌&&◌, not, ◌==◌, nat_lt, if◌then◌else◌, List, [], ◌∷◌, ◌++◌, length, map, filter, slice_get, Option, Some, None}
-use Rattle.std.specs.List.{list_any}
+use Rattle.std.specs.Prelude.{ℕ, zero, suc, ◌+◌, ◌-◌, Bool, true, false, ◌&&◌, not, ◌==◌, nat_lt, if◌then◌else◌, List}
+use Rattle.std.specs.Prelude.{[], ◌∷◌, ◌++◌, length, map, filter, slice_get, Option, Some, None}
 use Rattle.topic_model.specs.Profile.{Profile}
 use Rattle.topic_model.specs.StoredMessage.{StoredMessage}
 use Rattle.shard_model.specs.ShardList.{ShardList, floor_of, message_at}
@@ -15,7 +15,7 @@ use Rattle.session_model.specs.Change.{Change, Passed, change}
 use Rattle.mqtt_packet.specs.declared.packet.AckKind.TheVariants.{Pubrel}
 use Rattle.mqtt_packet.specs.Packet.{PlainPacket, ack}
 use Rattle.turn_model.specs.Delivery.{delivery, delivery_length}
-use Rattle.turn_model.specs.PlainConnection.{PlainConnection, rest_of}
+use Rattle.turn_model.specs.PlainConnection.{PlainConnection, is_among, rest_of}
 use Rattle.turn_model.specs.Batch.{batch_of_session}
 
 -- ---- where an entry's message is
@@ -61,7 +61,8 @@ pubrel (Track2 number) = ack Pubrel (id2 number) 0 []
 pubrel other = ack Pubrel 0 0 []
 
 abbrev pub published_again : ℕ → ℕ → Version → StoredMessage → Kind → Again
-published_again limit now v w kind = if nat_lt limit (delivery_length v w kind) then Passes else Publishes (delivery true now v w kind)
+published_again limit now v w kind =
+    if nat_lt limit (delivery_length v w kind) then Passes else Publishes (delivery true now v w kind)
 
 abbrev pub again_with : ℕ → ℕ → Kind → Option Version → Option StoredMessage → Again
 again_with limit now kind (Some v) (Some w) = published_again limit now v w kind
@@ -69,7 +70,8 @@ again_with limit now kind v w = Passes
 
 abbrev pub again_unless : Bool → PlainSession → ℕ → ℕ → List ShardList → Entry → Again
 again_unless true m limit now lists e = Releases (pubrel e.kind)
-again_unless false m limit now lists e = again_with limit now e.kind (version_numbered e.version m) (message_for lists e)
+again_unless false m limit now lists e =
+    again_with limit now e.kind (version_numbered e.version m) (message_for lists e)
 
 -- what an unfinished entry gives, for a client that takes so long a packet, at a moment
 abbrev pub again : PlainSession → ℕ → ℕ → List ShardList → Entry → Again
@@ -91,8 +93,8 @@ entries_with xs = map (λ (x : Entry × Option PlainPacket). x.0) xs
 
 -- ---- a pump that sends again
 
--- As it goes on: whether it has stopped, how many entries it may still take, and the quota; what it took, each entry with
--- its packet, or none where it is passed over; those passed over; and what is left.
+-- As it goes on: whether it has stopped, how many entries it may still take, and the quota; what it took, each entry
+-- with its packet, or none where it is passed over; those passed over; and what is left.
 pub record Resent : Type 0 where
   pub stopped : Bool
   pub room : ℕ
@@ -105,7 +107,8 @@ abbrev pub entry_taken_as : Again → Entry → Resent → Resent
 entry_taken_as (Releases packet) e r = record r { room = r.room - 1; taken = r.taken ++ (e, Some packet) ∷ [] }
 entry_taken_as (Publishes packet) e r =
     record r { room = r.room - 1; quota = r.quota - 1; taken = r.taken ++ (e, Some packet) ∷ [] }
-entry_taken_as Passes e r = record r { room = r.room - 1; taken = r.taken ++ (e, None) ∷ []; passed = r.passed ++ e ∷ [] }
+entry_taken_as Passes e r = record r
+    { room = r.room - 1; taken = r.taken ++ (e, None) ∷ []; passed = r.passed ++ e ∷ [] }
 
 -- a PUBLISH for which the quota is 0 stops it
 abbrev pub waits_for_quota : ℕ → Again → Bool
@@ -124,15 +127,16 @@ abbrev pub may_take : Again → Resent → Bool
 may_take a r = not r.stopped && (nat_lt 0 r.room && not (waits_for_quota r.quota a))
 
 abbrev pub entry_taken : PlainSession → ℕ → ℕ → List ShardList → Entry → Resent → Resent
-entry_taken m limit now lists e r = entry_taken_if (may_take (again m limit now lists e) r) (again m limit now lists e) e r
+entry_taken m limit now lists e r =
+    entry_taken_if (may_take (again m limit now lists e) r) (again m limit now lists e) e r
 
 abbrev pub entries_taken : PlainSession → ℕ → ℕ → List ShardList → List Entry → Resent → Resent
 entries_taken m limit now lists [] r = r
 entries_taken m limit now lists (e ∷ es) r = entries_taken m limit now lists es (entry_taken m limit now lists e r)
 
 -- From the front of what is left: at most a batch of entries, up to the first PUBLISH for which the quota is 0.
-abbrev pub resent : Profile → ℕ → PlainSession → PlainConnection → List ShardList → Resent
-resent profile now m k lists =
+abbrev pub resend_of : Profile → ℕ → PlainSession → PlainConnection → List ShardList → Resent
+resend_of profile now m k lists =
     entries_taken m k.packet_limit now lists (rest_of m k)
     (record { stopped = false; room = batch_of_session profile m; quota = k.quota; taken = []; passed = []; rest = [] })
 
@@ -141,9 +145,6 @@ abbrev pub resent_connection : Resent → PlainConnection → PlainConnection
 resent_connection r k = record k { quota = r.quota; rest = r.rest; passed = k.passed ++ r.passed }
 
 -- ---- what was passed over directly above a mark
-
-abbrev pub is_among : ℕ → List ℕ → Bool
-is_among number numbers = list_any (λ (n : ℕ). n == number) numbers
 
 -- going up from a number as long as the next one is among these
 abbrev pub up_from : ℕ → List ℕ → ℕ → ℕ
@@ -163,7 +164,8 @@ pass_if false client track number = []
 -- a change for each track that has such entries: they are finished
 abbrev pub pass_changes : PlainSession → PlainConnection → List Change
 pass_changes m k =
-    pass_if (nat_lt m.acked (passed1 m k)) m.client 1 (passed1 m k) ++ pass_if (nat_lt m.received (passed2 m k)) m.client 2 (passed2 m k)
+    pass_if (nat_lt m.acked (passed1 m k)) m.client 1 (passed1 m k)
+    ++ pass_if (nat_lt m.received (passed2 m k)) m.client 2 (passed2 m k)
 
 -- ---- what is put out for a batch
 

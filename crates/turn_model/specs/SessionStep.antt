@@ -1,5 +1,7 @@
--- What an event does to one session: the changes, what is answered, and the reason of a close with the rule that was broken.
-use Rattle.std.specs.Prelude.{ℕ, ◌+◌, Bool, true, false, ◌&&◌, ◌==◌, nat_le, nat_lt, if◌then◌else◌, List, [], ◌∷◌, ◌++◌, length, find, max, Option, Some, None, is_some}
+-- What an event does to one session: the changes, what is answered, and the reason of a close with the rule that was
+-- broken.
+use Rattle.std.specs.Prelude.{ℕ, ◌+◌, Bool, true, false, ◌&&◌, ◌==◌, nat_le, nat_lt, if◌then◌else◌, List, [], ◌∷◌, ◌++◌}
+use Rattle.std.specs.Prelude.{length, find, max, Option, Some, None, is_some}
 use Rattle.std.specs.Str.{bytes_eq}
 use Rattle.topic_model.specs.Profile.{Profile}
 use Rattle.topic_model.specs.Levels.{levels_of, text_of_levels}
@@ -8,7 +10,8 @@ use Rattle.shard_model.specs.declared.sweep.Sweep.{Sweep}
 use Rattle.session_model.specs.Entry.{id1, id2, numbers1, numbers2}
 use Rattle.session_model.specs.PlainSession.{PlainSession, Subscription, next_subscription, next_version}
 use Rattle.session_model.specs.Unfinished.{unfinished}
-use Rattle.session_model.specs.Change.{Change, Effect, Bound, Subscribed, Replaced, Unsubscribed, Issued, Acked, Received, Done, Passed, Issues, Passes, change}
+use Rattle.session_model.specs.Change.{Change, Effect, Bound, Subscribed, Replaced, Unsubscribed, Issued, Acked}
+use Rattle.session_model.specs.Change.{Received, Done, Passed, Issues, Passes, change}
 use Rattle.session_model.specs.Acting.{changed_session}
 use Rattle.session_model.specs.FitsSession.{live_count, text_bytes, greatest_of_four}
 use Rattle.session_model.specs.Ends.{part_changes}
@@ -18,9 +21,10 @@ use Rattle.mqtt_packet.specs.Packet.{PlainPacket, Suback, Unsuback, ack}
 use Rattle.turn_model.specs.Delivery.{qos_of}
 use Rattle.turn_model.specs.Reasons as Reason
 
--- What happens to a session. A client comes back, with its interval; it subscribes, with the Subscription Identifier (0 for none) and
--- where a new subscription starts in each shard; it unsubscribes; it acknowledges, where the entries above the mark were passed over up
--- to a number; a batch is issued; entries are passed over on a track; and its connection ends, with the interval that then counts.
+-- What happens to a session. A client comes back, with its interval; it subscribes, with the Subscription Identifier (0
+-- for none) and where a new subscription starts in each shard; it unsubscribes; it acknowledges, where the entries
+-- above the mark were passed over up to a number; a batch is issued; entries are passed over on a track; and its
+-- connection ends, with the interval that then counts.
 pub record Subscribing : Type 0 where
   pub id : ℕ
   pub identifier : ℕ
@@ -128,7 +132,8 @@ abbrev pub filter_granted : Profile → Subscribing → Wish → Option Subscrip
 filter_granted profile s wish (Some live) a =
     filter_granted_or (has_version_left a.session) (replaced_in a.session live wish.options s.identifier) wish.options a
 filter_granted profile s wish None a =
-    filter_granted_or (has_subscription_place profile a.session wish.filter) (subscribed_in a.session wish s.identifier s.starts) wish.options a
+    filter_granted_or (has_subscription_place profile a.session wish.filter)
+    (subscribed_in a.session wish s.identifier s.starts) wish.options a
 
 -- why a filter is refused, whatever the session has: the first that holds
 abbrev pub filter_reason : Profile → ℕ → List ℕ → Option ℕ
@@ -145,7 +150,8 @@ filter_asked profile s wish None a = filter_granted profile s wish (live_with wi
 -- each filter in turn, from this place in the packet on
 abbrev pub filters_asked : Profile → Subscribing → ℕ → List Wish → FilterAnswers → FilterAnswers
 filters_asked profile s place [] a = a
-filters_asked profile s place (wish ∷ wishes) a = filters_asked profile s (place + 1) wishes (filter_asked profile s wish (filter_reason profile place wish.filter) a)
+filters_asked profile s place (wish ∷ wishes) a =
+    filters_asked profile s (place + 1) wishes (filter_asked profile s wish (filter_reason profile place wish.filter) a)
 
 abbrev pub suback : ℕ → FilterAnswers → Planned
 suback id a = answering a.changes (Suback (record { id = id; props = []; reasons = a.reasons }) ∷ [])
@@ -160,7 +166,8 @@ ended_or_not (Some s) a = with_filter_change (Unsubscribed s.number) Reason.succ
 ended_or_not None a = with_filter_reason Reason.no_subscription a
 
 abbrev pub filter_ended : List ℕ → FilterAnswers → FilterAnswers
-filter_ended text a = if is_some (filter_refusal text) then with_filter_reason Reason.bad_filter a else ended_or_not (live_with text a.session) a
+filter_ended text a = if is_some (filter_refusal text) then with_filter_reason Reason.bad_filter a
+    else ended_or_not (live_with text a.session) a
 
 abbrev pub filters_ended : List (List ℕ) → FilterAnswers → FilterAnswers
 filters_ended [] a = a
@@ -194,7 +201,8 @@ is_next mark passed number = number == max mark passed + 1
 abbrev pub puback_of : PlainSession → ℕ → Option ℕ → Planned
 puback_of m passed None = changing []
 puback_of m passed (Some number) =
-    if is_next m.acked passed number then changing (change m.client (Acked number) ∷ []) else planned_breach Reason.rule_out_of_order
+    if is_next m.acked passed number then changing (change m.client (Acked number) ∷ [])
+    else planned_breach Reason.rule_out_of_order
 
 -- a PUBREC with a reason of 80 or more finishes the entry, and nothing is released (MQTT 4.3.3)
 abbrev pub is_failure : ℕ → Bool
@@ -218,7 +226,8 @@ pubrec_of m a (Some number) =
 
 abbrev pub pubcomp_of : PlainSession → Option ℕ → Planned
 pubcomp_of m None = changing []
-pubcomp_of m (Some number) = if nat_le number m.received then changing (change m.client (Done number) ∷ []) else planned_breach Reason.rule_not_received
+pubcomp_of m (Some number) = if nat_le number m.received then changing (change m.client (Done number) ∷ [])
+    else planned_breach Reason.rule_not_received
 
 -- ---- the step of a session
 

@@ -10,8 +10,8 @@ use Rattle.mqtt_packet.specs.Packet.{PlainPacket}
 use Rattle.turn_model.specs.PlainConnection.{PlainConnection, Effects, no_effects}
 use Rattle.turn_model.specs.Reasons as Reason
 
--- What a worker goes by: the profile and the configuration, its number, its sessions with the number of the next one and
--- those of them that are committed, its connections, the list that it has seen of each shard, and the moment.
+-- What a worker goes by: the profile and the configuration, its number, its sessions with the number of the next one
+-- and those of them that are committed, its connections, the list that it has seen of each shard, and the moment.
 pub record Setting : Type 0 where
   pub profile : Profile
   pub config : Config
@@ -27,8 +27,8 @@ pub record Ask : Type 0 where
   pub shard : ℕ
   pub ops : List Op
 
--- what a shard answered: it stored the group, with the message and its shard that stands for a publish of it; it is full,
--- it would await too many identifiers, or a device of it failed
+-- what a shard answered: it stored the group, with the message and its shard that stands for a publish of it; it is
+-- full, it would await too many identifiers, or a device of it failed
 pub data Outcome : Type 0 where
   Kept : Option (ℕ × StoredMessage) → Outcome
   IsFull : Outcome
@@ -47,8 +47,8 @@ abbrev pub replies : List PlainPacket → List Reply
 replies [] = []
 replies (packet ∷ packets) = reply packet ∷ replies packets
 
--- A connection is closed: with a reason that a DISCONNECT tells it, or with nothing written; and the number of the rule that was broken,
--- 0 for none.
+-- A connection is closed: with a reason that a DISCONNECT tells it, or with nothing written; and the number of the rule
+-- that was broken, 0 for none.
 pub record Close : Type 0 where
   pub connection : ℕ
   pub reason : Option ℕ
@@ -83,18 +83,19 @@ breaking connection rule = closing connection Reason.protocol_error rule
 
 -- with nothing written
 abbrev pub closing_silently : ℕ → ℕ → Step
-closing_silently connection rule = record idle { closes = record { connection = connection; reason = None; rule = rule } ∷ [] }
+closing_silently connection rule =
+    record idle { closes = record { connection = connection; reason = None; rule = rule } ∷ [] }
 
 -- ---- what a step is owed
 
-abbrev pub is_empty : {A : Type 0} → List A → Bool
-is_empty [] = true
-is_empty (x ∷ xs) = false
+abbrev pub is_nil : {A : Type 0} → List A → Bool
+is_nil [] = true
+is_nil (x ∷ xs) = false
 
 -- it asks for no group and doesn't close
 abbrev pub is_settled : Step → Bool
-is_settled step = is_empty step.groups && is_empty step.closes
+is_settled step = is_nil step.groups && is_nil step.closes
 
 -- and it changes nothing
 abbrev pub owes_nothing : Step → Bool
-owes_nothing step = is_settled step && is_empty step.changes
+owes_nothing step = is_settled step && is_nil step.changes

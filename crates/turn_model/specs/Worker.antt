@@ -13,8 +13,8 @@ use Rattle.turn_model.specs.PlainConnection.{PlainConnection, Effects, connectio
 use Rattle.turn_model.specs.Step.{Setting, Reply}
 
 -- What a committed record or a stored group is answered by: the replies to its packets, with what these do to the
--- connection; the CONNACK of a CONNECT, with the client and the number of the session that it began or bound; the packets
--- of a batch, at the moment of its record, as long as no View came since.
+-- connection; the CONNACK of a CONNECT, with the client and the number of the session that it began or bound; the
+-- packets of a batch, at the moment of its record, as long as no View came since.
 pub data Answer : Type 0 where
   Answers : List Reply → Effects → Answer
   Accepts : ConnectFields → List ℕ → ℕ → List Reply → Answer
@@ -24,8 +24,8 @@ pub record Item : Type 0 where
   pub connection : ℕ
   pub answer : Answer
 
--- A record that was begun: what it begins with of the owed changes, its own, and the item that it hands on, none where its
--- connection has ended; and of a CONNECT, whose connection isn't bound yet, the moment at which that has ended.
+-- A record that was begun: what it begins with of the owed changes, its own, and the item that it hands on, none where
+-- its connection has ended; and of a CONNECT, whose connection isn't bound yet, the moment at which that has ended.
 pub record PendingRecord : Type 0 where
   pub owed : List Change
   pub changes : List Change
@@ -50,9 +50,9 @@ pub record Note : Type 0 where
 abbrev pub note : PlainConnection → Noted → Note
 note k noted = record { connection = k.number; client = k.client; incarnation = k.incarnation; noted = noted }
 
--- Its number; the committed sessions, and the changes that are owed on top of them; its connections; the list that it has
--- seen of each shard, and the shards that stored a group of its since; the record that pends; what no Emit has put out
--- yet; and the history of what came of its connections.
+-- Its number; the committed sessions, and the changes that are owed on top of them; its connections; the list that it
+-- has seen of each shard, and the shards that stored a group of its since; the record that pends; what no Emit has put
+-- out yet; and the history of what came of its connections.
 pub record Worker : Type 0 where
   pub number : ℕ
   pub committed : Sessions
@@ -67,7 +67,18 @@ pub record Worker : Type 0 where
 -- a worker that begins, having seen these lists
 abbrev pub opening_worker : ℕ → List ShardList → Worker
 opening_worker number lists =
-    record { number = number; committed = no_sessions; owed = []; connections = []; seen = lists; unviewed = []; pending = None; due = []; history = [] }
+    record {
+      number = number;
+      committed = no_sessions;
+      owed = [];
+      connections = [];
+      seen = lists;
+      unviewed =
+          [];
+      pending = None;
+      due = [];
+      history = [];
+    }
 
 -- the sessions that the committed ones and the owed changes give together
 abbrev pub sessions_of : Worker → Sessions

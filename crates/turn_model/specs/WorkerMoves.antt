@@ -1,5 +1,7 @@
 -- The moves of a worker, and what they put out. A move that isn't allowed changes nothing and puts out nothing.
-use Rattle.std.specs.Prelude.{ℕ, ◌+◌, ◌-◌, Bool, true, false, ◌&&◌, ◌||◌, not, ◌==◌, nat_le, if◌then◌else◌, List, [], ◌∷◌, ◌++◌, length, map, filter, find, take, drop, slice_get, slice_set, Option, Some, None, is_some, is_none}
+use Rattle.std.specs.Prelude.{ℕ, ◌+◌, ◌-◌, Bool, true, false, ◌&&◌, ◌||◌, not, ◌==◌, nat_le, if◌then◌else◌, List, []}
+use Rattle.std.specs.Prelude.{◌∷◌, ◌++◌, length, map, filter, find, take, drop, slice_get, slice_set, Option, Some}
+use Rattle.std.specs.Prelude.{None, is_some, is_none}
 use Rattle.std.specs.List.{list_any, flat_map}
 use Rattle.std.specs.Str.{bytes_eq}
 use Rattle.topic_model.specs.Profile.{Profile, Config}
@@ -12,20 +14,26 @@ use Rattle.session_model.specs.Acting.{act_all, changed_session}
 use Rattle.session_model.specs.Ends.{restart_owes}
 use Rattle.mqtt_packet.specs.Packet.{PlainPacket, Publish, Ack, Disconnect, ConnectFields}
 use Rattle.mqtt_packet.specs.declared.packet.AckKind.TheVariants.{Pubrel}
-use Rattle.turn_model.specs.PlainConnection.{PlainConnection, Effects, rest_of, no_effects, both_effects, connection_of, bound_connection, without_connection, on_connection, after_packets}
+use Rattle.turn_model.specs.PlainConnection.{PlainConnection, Effects, rest_of, no_effects, both_effects, connection_of}
+use Rattle.turn_model.specs.PlainConnection.{bound_connection, without_connection, on_connection, after_packets, is_among}
 use Rattle.turn_model.specs.Batch.{quota_used}
 use Rattle.turn_model.specs.MayIssue.{may_issue}
-use Rattle.turn_model.specs.Resend.{Resent, resent, resent_connection, with_rest, pass_changes, packets_with, issued_pairs}
-use Rattle.turn_model.specs.Step.{Setting, Outcome, Kept, IsFull, AwaitsTooMany, Faulted, Reply, Step, idle, is_empty, is_settled, owes_nothing}
+use Rattle.turn_model.specs.Resend.{Resent, resend_of, resent_connection, with_rest, pass_changes, packets_with}
+use Rattle.turn_model.specs.Resend.{issued_pairs}
+use Rattle.turn_model.specs.Step.{Setting, Outcome, Kept, IsFull, AwaitsTooMany, Faulted, Reply, Step, idle, is_nil}
+use Rattle.turn_model.specs.Step.{is_settled, owes_nothing}
 use Rattle.turn_model.specs.PublishStep.{shard_for, stored_publish, completion_step, with_shard}
-use Rattle.turn_model.specs.ConnectStep.{connect_refusal, connect_step, client_for, is_home, session_number, takeover_close}
+use Rattle.turn_model.specs.ConnectStep.{connect_refusal, connect_step, client_for, is_home, session_number}
+use Rattle.turn_model.specs.ConnectStep.{takeover_close}
 use Rattle.turn_model.specs.PacketStep.{packet_step, closed_step, tick_step}
-use Rattle.turn_model.specs.Worker.{Worker, Item, Answer, Answers, Accepts, Delivers, PendingRecord, Note, note, SentAgain, Delivered, Out, Sent, Closed, sessions_of, setting_of, connection_in, session_in, sent_on, sendable, reply_packets, acked_by}
+use Rattle.turn_model.specs.Worker.{Worker, Item, Answer, Answers, Accepts, Delivers, PendingRecord, Note, note}
+use Rattle.turn_model.specs.Worker.{SentAgain, Delivered, Out, Sent, Closed, sessions_of, setting_of, connection_in}
+use Rattle.turn_model.specs.Worker.{session_in, sent_on, sendable, reply_packets, acked_by}
 use Rattle.turn_model.specs.Worker as Worker
 use Rattle.turn_model.specs.Reasons as Reason
 
--- Why a record is made: packets of a connection, one after another; a CONNECT; a pump, with the batch that it issues, if it issues one; a
--- Tick; or changes that are owed, where they and others don't go into one record.
+-- Why a record is made: packets of a connection, one after another; a CONNECT; a pump, with the batch that it issues,
+-- if it issues one; a Tick; or changes that are owed, where they and others don't go into one record.
 pub data Cause : Type 0 where
   OfPackets : ℕ → List PlainPacket → Cause
   OfConnect : ℕ → ConnectFields → Cause
@@ -33,15 +41,15 @@ pub data Cause : Type 0 where
   OfTick : Cause
   OfOwed : Cause
 
--- What is put out: the item at a place among those due; the answer of a packet that asks for no group and changes nothing, or whose group
--- was refused; what is to be sent again.
+-- What is put out: the item at a place among those due; the answer of a packet that asks for no group and changes
+-- nothing, or whose group was refused; what is to be sent again.
 pub data Emitted : Type 0 where
   OfItem : ℕ → Emitted
   OfPacket : ℕ → PlainPacket → List Outcome → Emitted
   OfResend : ℕ → Emitted
 
--- How a connection ends: with a DISCONNECT of this reason, if with one; whether the server closes it; and the interval that the client
--- named in its own DISCONNECT, if it did.
+-- How a connection ends: with a DISCONNECT of this reason, if with one; whether the server closes it; and the interval
+-- that the client named in its own DISCONNECT, if it did.
 pub record Ending : Type 0 where
   pub reason : Option ℕ
   pub by_server : Bool
@@ -91,7 +99,8 @@ aged_item i = record i { answer = aged_answer i.answer }
 
 abbrev pub aged_pending : Option PendingRecord → Option PendingRecord
 aged_pending None = None
-aged_pending (Some p) = Some (record p { item = elim (p.item) as (λ i. Option Item) [ None ↦ None | Some i ↦ Some (aged_item i) ] })
+aged_pending (Some p) =
+    Some (record p { item = elim (p.item) as (λ i. Option Item) [ None ↦ None | Some i ↦ Some (aged_item i) ] })
 
 abbrev pub with_view : ℕ → ShardList → Worker → Worker
 with_view shard list w =
@@ -108,7 +117,8 @@ with_view shard list w =
 abbrev pub accepts_on : ℕ → Item → Bool
 accepts_on conn i =
     (i.connection == conn)
-    && elim (i.answer) as (λ a. Bool) [ Answers rs effects ↦ false | Accepts c client number rs ↦ true | Delivers b moment fresh ↦ false ]
+    && elim (i.answer) as
+    (λ a. Bool) [ Answers rs effects ↦ false | Accepts c client number rs ↦ true | Delivers b moment fresh ↦ false ]
 
 -- one that began or bound the session of this client with this number
 abbrev pub accepts_session : List ℕ → ℕ → Item → Bool
@@ -141,7 +151,8 @@ session_at client number w =
 
 -- ---- records
 
--- As the packets of a record are gone through: the session so far, and what they change, are answered and do to the connection.
+-- As the packets of a record are gone through: the session so far, and what they change, are answered and do to the
+-- connection.
 pub record Stepped : Type 0 where
   pub session : PlainSession
   pub changes : List Change
@@ -174,7 +185,7 @@ stepped_all s k (packet ∷ packets) st = stepped_all s k packets (stepped_by (p
 -- where nothing is owed.
 abbrev pub has_room : Profile → Worker → Bool → List Change → Bool
 has_room profile w of_one changes =
-    (of_one && is_empty w.owed) || nat_le (length w.owed + length changes) profile.changes
+    (of_one && is_nil w.owed) || nat_le (length w.owed + length changes) profile.changes
 
 abbrev pub pending_if : Bool → Worker → List Change → Option Item → Option PendingRecord
 pending_if true w changes item = Some (record { owed = w.owed; changes = changes; item = item; left = None })
@@ -183,7 +194,7 @@ pending_if false w changes item = None
 -- of some changes, of one packet or of several, where there is room
 abbrev pub pending_of : Profile → Worker → Bool → Bool → List Change → Option Item → Option PendingRecord
 pending_of profile w allowed of_one changes item =
-    pending_if (allowed && (not (is_empty changes) && has_room profile w of_one changes)) w changes item
+    pending_if (allowed && (not (is_nil changes) && has_room profile w of_one changes)) w changes item
 
 abbrev pub item : ℕ → Answer → Item
 item conn answer = record { connection = conn; answer = answer }
@@ -198,7 +209,8 @@ is_one [] = false
 is_one (x ∷ []) = true
 is_one (x ∷ y ∷ xs) = false
 
-abbrev pub packets_record : Setting → Worker → ℕ → List PlainPacket → Option PlainConnection → Option PlainSession → Option PendingRecord
+abbrev pub packets_record : Setting → Worker → ℕ → List PlainPacket → Option PlainConnection → Option PlainSession →
+    Option PendingRecord
 packets_record s w conn packets (Some k) (Some m) =
     packets_pending s.profile w conn (is_one packets) (stepped_all s k packets (not_stepped m))
 packets_record s w conn packets k m = None
@@ -211,7 +223,8 @@ has_item conn is = list_any (λ (i : Item). i.connection == conn) is
 abbrev pub connect_record : Setting → Worker → ℕ → ConnectFields → Step → Option PendingRecord
 connect_record s w conn c step =
     pending_of s.profile w
-    (is_none (connection_in w conn) && (not (has_item conn w.due) && (is_none (connect_refusal s c) && is_home s (client_for s c))))
+    (is_none (connection_in w conn)
+    && (not (has_item conn w.due) && (is_none (connect_refusal s c) && is_home s (client_for s c))))
     true
     step.changes
     (Some (item conn (Accepts c (client_for s c) (session_number s c) step.replies)))
@@ -225,7 +238,8 @@ issued_change m (Some b) = change m.client (Issued b) ∷ []
 abbrev pub delivers_on : ℕ → Item → Bool
 delivers_on conn i =
     (i.connection == conn)
-    && elim (i.answer) as (λ a. Bool) [ Answers rs effects ↦ false | Accepts c client number rs ↦ false | Delivers b moment fresh ↦ true ]
+    && elim (i.answer) as
+    (λ a. Bool) [ Answers rs effects ↦ false | Accepts c client number rs ↦ false | Delivers b moment fresh ↦ true ]
 
 -- of a connection at most one is under way or due, so that no more goes out than its quota allows, and in order
 abbrev pub may_issue_if : Setting → Worker → PlainSession → PlainConnection → Option Issues → Bool
@@ -236,9 +250,11 @@ abbrev pub delivering : ℕ → ℕ → Option Issues → Option Item
 delivering conn now None = None
 delivering conn now (Some b) = Some (item conn (Delivers b now true))
 
-abbrev pub pump_record : Setting → Worker → ℕ → Option Issues → Option PlainConnection → Option PlainSession → Option PendingRecord
+abbrev pub pump_record : Setting → Worker → ℕ → Option Issues → Option PlainConnection → Option PlainSession →
+    Option PendingRecord
 pump_record s w conn b (Some k) (Some m) =
-    pending_of s.profile w (may_issue_if s w m k b) true (issued_change m b ++ pass_changes m k) (delivering conn s.now b)
+    pending_of s.profile w (may_issue_if s w m k b) true (issued_change m b ++ pass_changes m k)
+    (delivering conn s.now b)
 pump_record s w conn b k m = None
 
 -- the sessions that are over end, as many as a record has room for
@@ -351,15 +367,15 @@ abbrev pub is_publish_packet : PlainPacket → Bool
 is_publish_packet (Publish p) = true
 is_publish_packet other = false
 
-abbrev pub first_message : List (Option StoredMessage) → Option StoredMessage
-first_message [] = None
-first_message (message ∷ messages) = message
+abbrev pub front_message : List (Option StoredMessage) → Option StoredMessage
+front_message [] = None
+front_message (message ∷ messages) = message
 
 -- the packets in order, each publish with its message
 abbrev pub stored_steps : ℕ → List PlainPacket → List (Option StoredMessage) → List Step
 stored_steps shard [] messages = []
 stored_steps shard (packet ∷ packets) messages =
-    stored_step packet (with_shard shard (first_message messages))
+    stored_step packet (with_shard shard (front_message messages))
     ∷ stored_steps shard packets (if is_publish_packet packet then drop 1 messages else messages)
 
 abbrev pub all_effects : List Step → Effects
@@ -444,18 +460,18 @@ is_refusal Faulted = false
 
 abbrev pub may_answer : Step → List Outcome → Bool
 may_answer step [] = true
-may_answer step (outcome ∷ []) = is_refusal outcome && not (is_empty step.groups)
+may_answer step (outcome ∷ []) = is_refusal outcome && not (is_nil step.groups)
 may_answer step (outcome ∷ other ∷ outcomes) = false
 
--- PUBLISH and PUBREL go by what their shard is seen to await: by a view that came since the shard stored a group of this
--- worker, as else an identifier that was released would still seem awaited
+-- PUBLISH and PUBREL go by what their shard is seen to await: by a view that came since the shard stored a group of
+-- this worker, as else an identifier that was released would still seem awaited
 abbrev pub looks_at_shard : PlainPacket → Bool
 looks_at_shard (Publish p) = true
 looks_at_shard (Ack Pubrel a) = true
 looks_at_shard other = false
 
 abbrev pub has_view : Setting → Worker → PlainSession → Bool
-has_view s w m = not (list_any (λ (shard : ℕ). shard == shard_for s m) w.unviewed)
+has_view s w m = not (is_among (shard_for s m) w.unviewed)
 
 abbrev pub has_view_for : Setting → Worker → PlainSession → PlainPacket → Bool
 has_view_for s w m packet = not (looks_at_shard packet) || has_view s w m
@@ -465,7 +481,8 @@ step_if true step = Some step
 step_if false step = None
 
 -- what answers a packet that owes nothing: it asked for no group, or that was refused
-abbrev pub answered_step : Setting → Worker → PlainPacket → List Outcome → Option PlainConnection → Option PlainSession → Option Step
+abbrev pub answered_step : Setting → Worker → PlainPacket → List Outcome → Option PlainConnection →
+    Option PlainSession → Option Step
 answered_step s w packet outcomes (Some k) (Some m) =
     step_if
     (has_view_for s w m packet
@@ -476,7 +493,8 @@ answered_step s w packet outcomes k m = None
 
 abbrev pub step_emitted : ℕ → ℕ → Option Step → Worker → Worker
 step_emitted conn now None w = w
-step_emitted conn now (Some step) w = record w { connections = on_connection conn (after_packets step.effects now) w.connections }
+step_emitted conn now (Some step) w =
+    record w { connections = on_connection conn (after_packets step.effects now) w.connections }
 
 abbrev pub resent_if : Bool → Resent → Option Resent
 resent_if true r = Some r
@@ -485,7 +503,7 @@ resent_if false r = None
 -- where some is left
 abbrev pub resent_for : Profile → ℕ → Worker → Option PlainConnection → Option PlainSession → Option Resent
 resent_for profile now w (Some k) (Some m) =
-    resent_if (not (is_empty (rest_of m k)) && not (awaits_connack k.number w)) (resent profile now m k w.seen)
+    resent_if (not (is_nil (rest_of m k)) && not (awaits_connack k.number w)) (resend_of profile now m k w.seen)
 resent_for profile now w k m = None
 
 abbrev pub resend_emitted : ℕ → Option PlainConnection → Option Resent → Worker → Worker
@@ -511,7 +529,8 @@ takes_over w client conn i =
 abbrev pub bound_with : ℕ → ConnectFields → ℕ → Option PlainConnection → Option PlainSession → Worker → Worker
 bound_with conn c now None (Some m) w =
     let k = with_rest m w.seen (bound_connection conn m c now) in
-    record w { connections = w.connections ++ k ∷ []; history = w.history ++ note k (Worker.Bound k.rest k.passed) ∷ [] }
+    record w
+    { connections = w.connections ++ k ∷ []; history = w.history ++ note k (Worker.Bound k.rest k.passed) ∷ [] }
 bound_with conn c now k m w = w
 
 abbrev pub bound_answer : ℕ → ℕ → Answer → Worker → Worker
@@ -519,8 +538,8 @@ bound_answer conn now (Accepts c client number rs) w =
     bound_with conn c now (connection_of client w.connections) (session_at client number w) w
 bound_answer conn now other w = w
 
--- Where nothing pends, the connection isn't bound, nor is its client on another one, and to the session that its CONNECT
--- began or bound, to no other.
+-- Where nothing pends, the connection isn't bound, nor is its client on another one, and to the session that its
+-- CONNECT began or bound, to no other.
 abbrev pub bound_if : ℕ → ℕ → Option PendingRecord → Option Item → Option PlainConnection → Worker → Worker
 bound_if conn now None (Some i) None w = bound_answer conn now i.answer w
 bound_if conn now p i k w = w
@@ -546,7 +565,8 @@ kept_pending conn now (Some p) =
 -- the end of a connection drops its items, that of the record that pends too
 abbrev pub without_items : ℕ → ℕ → Worker → Worker
 without_items conn now w =
-    record w { due = filter (λ (i : Item). not (i.connection == conn)) w.due; pending = kept_pending conn now w.pending }
+    record w
+    { due = filter (λ (i : Item). not (i.connection == conn)) w.due; pending = kept_pending conn now w.pending }
 
 abbrev pub without_bound : ℕ → ℕ → Worker → Worker
 without_bound conn now w = without_items conn now (record w { connections = without_connection conn w.connections })
@@ -563,7 +583,8 @@ accept_dropped conn now None w = without_items conn now w
 accept_dropped conn now (Some i) w =
     elim (i.answer) as (λ a. Worker) [
       | Answers rs effects ↦ without_items conn now w
-      | Accepts c client number rs ↦ owed_by_end client number now (session_at client number w) None (without_items conn now w)
+      | Accepts c client number rs ↦ owed_by_end client number now (session_at client number w) None
+          (without_items conn now w)
       | Delivers b moment fresh ↦ without_items conn now w
     ]
 
@@ -600,8 +621,11 @@ module _ (profile : Profile) (config : Config) where
   worker_step w (Stored shard a messages) = stored_if (has_asked a (connection_in w a.connection)) shard a messages w
   worker_step w (Emit (OfItem place) now) = emitted_if place now (item_at w place) w
   worker_step w (Emit (OfPacket conn packet outcomes) now) =
-      step_emitted conn now (answered_step (setting_of profile config now w) w packet outcomes (connection_in w conn) (session_in w conn)) w
-  worker_step w (Emit (OfResend conn) now) = resend_emitted conn (connection_in w conn) (resent_for profile now w (connection_in w conn) (session_in w conn)) w
+      step_emitted conn now
+      (answered_step (setting_of profile config now w) w packet outcomes (connection_in w conn) (session_in w conn))
+      w
+  worker_step w (Emit (OfResend conn) now) =
+      resend_emitted conn (connection_in w conn) (resent_for profile now w (connection_in w conn) (session_in w conn)) w
   worker_step w (Bind conn now) = bound_if conn now w.pending (find (accepts_on conn) w.due) (connection_in w conn) w
   worker_step w (TakeOver conn) = taken_over_if (may_take_over w conn (connection_in w conn)) conn w
   worker_step w (Unbind conn ending now) = unbound_from conn ending now (connection_in w conn) w
@@ -642,7 +666,8 @@ module _ (profile : Profile) (config : Config) where
 
   abbrev pub ending_outs : ℕ → Ending → Worker → Option PlainConnection → List Out
   ending_outs conn ending w None = close_outs conn (ending.by_server && has_connect conn w)
-  ending_outs conn ending w (Some k) = farewell (awaits_connack conn w) conn ending.reason ++ close_outs conn ending.by_server
+  ending_outs conn ending w (Some k) =
+      farewell (awaits_connack conn w) conn ending.reason ++ close_outs conn ending.by_server
 
   abbrev pub takeover_outs : Bool → ℕ → Worker → List Out
   takeover_outs true conn w = farewell (awaits_connack conn w) conn (takeover_close conn).reason ++ Closed conn ∷ []
@@ -651,8 +676,10 @@ module _ (profile : Profile) (config : Config) where
   abbrev pub worker_outs : Worker → WorkerMove → List Out
   worker_outs w (Emit (OfItem place) now) = emitted_outs w (item_at w place)
   worker_outs w (Emit (OfPacket conn packet outcomes) now) =
-      step_outs (connection_in w conn) (answered_step (setting_of profile config now w) w packet outcomes (connection_in w conn) (session_in w conn))
-  worker_outs w (Emit (OfResend conn) now) = resend_outs conn (resent_for profile now w (connection_in w conn) (session_in w conn))
+      step_outs (connection_in w conn)
+      (answered_step (setting_of profile config now w) w packet outcomes (connection_in w conn) (session_in w conn))
+  worker_outs w (Emit (OfResend conn) now) =
+      resend_outs conn (resent_for profile now w (connection_in w conn) (session_in w conn))
   worker_outs w (TakeOver conn) = takeover_outs (may_take_over w conn (connection_in w conn)) conn w
   worker_outs w (Unbind conn ending now) = ending_outs conn ending w (connection_in w conn)
   worker_outs w other = []
@@ -678,7 +705,8 @@ module _ (profile : Profile) (config : Config) where
   abbrev pub worker_acks : Worker → WorkerMove → List (ℕ × StoredMessage)
   worker_acks w (Emit (OfItem place) now) = emitted_acks w (item_at w place)
   worker_acks w (Emit (OfPacket conn packet outcomes) now) =
-      step_acks (connection_in w conn) (answered_step (setting_of profile config now w) w packet outcomes (connection_in w conn) (session_in w conn))
+      step_acks (connection_in w conn)
+      (answered_step (setting_of profile config now w) w packet outcomes (connection_in w conn) (session_in w conn))
   worker_acks w other = []
 
 -- ---- a crash
@@ -686,7 +714,8 @@ module _ (profile : Profile) (config : Config) where
 -- No connections, the lists as they are stored, and what a restart owes; of what pended nothing is handed on.
 abbrev pub restarted_worker : List ShardList → ℕ → Worker → Worker
 restarted_worker lists now w =
-    record w { owed = restart_owes now w.committed; connections = []; seen = lists; unviewed = []; pending = None; due = [] }
+    record w
+    { owed = restart_owes now w.committed; connections = []; seen = lists; unviewed = []; pending = None; due = [] }
 
 abbrev pub crashed_worker : List ShardList → ℕ → Bool → Worker → Worker
 crashed_worker lists now goes_in w = restarted_worker lists now (record_resolved goes_in now w.pending w)

@@ -3,7 +3,8 @@ use Rattle.std.specs.Prelude.{◌≡◌, refl, [], ◌∷◌, ◌++◌, codes}
 use Rattle.topic_model.specs.Profile.{whole}
 use Rattle.world_model.specs.Computing.{running}
 use Rattle.world_model.specs.Running.{text_of_script}
-use Rattle.world_examples.specs.RowWords.{lines, send, send_a, connect_as, closed, k0, k1, ponged, a_connects, p_connects}
+use Rattle.world_examples.specs.RowWords.{lines, send, send_a, connect_as, closed, k0, k1, ponged, a_connects}
+use Rattle.world_examples.specs.RowWords.{p_connects}
 
 -- a script without lines prints nothing
 empty_script : text_of_script whole [] [] ≡ []
@@ -18,7 +19,8 @@ unfolding running
 connects = refl
 
 -- a client without an identifier gets one of its worker and the next incarnation's number, and is told so
-assigned_identifier : text_of_script whole (lines (codes "open 1" ∷ codes "send 1 101200044D5154540500003C051100000E100000" ∷ [])) []
+assigned_identifier : text_of_script whole
+    (lines (codes "open 1" ∷ codes "send 1 101200044D5154540500003C051100000E100000" ∷ [])) []
     ≡ lines (codes "1< 201B0000181200096175746F2D30302D31210020250027001000002A00" ∷ [])
 unfolding running
 assigned_identifier = refl
@@ -55,7 +57,8 @@ unfolding running
 wrong_version = refl
 
 -- the lowest of the flags, which has to be 0, is set
-malformed_connect : text_of_script whole (lines (codes "open 1" ∷ codes "send 1 101300044D5154540501003C051100000E10000161" ∷ [])) []
+malformed_connect : text_of_script whole
+    (lines (codes "open 1" ∷ codes "send 1 101300044D5154540501003C051100000E10000161" ∷ [])) []
     ≡ lines (codes "1< 2003008100" ∷ closed (codes "1") ∷ [])
 unfolding running
 malformed_connect = refl
@@ -76,13 +79,16 @@ authentication_method = refl
 
 -- a will, which isn't taken yet
 with_a_will : text_of_script whole
-    (lines (codes "open 1" ∷ codes "send 1 102200044D515454050C003C051100000E100001770518000000050003612F6200026869" ∷ [])) []
+    (lines
+    (codes "open 1" ∷ codes "send 1 102200044D515454050C003C051100000E100001770518000000050003612F6200026869" ∷ []))
+    []
     ≡ lines (codes "1< 2003008300" ∷ closed (codes "1") ∷ [])
 unfolding running
 with_a_will = refl
 
 -- an identifier over its limit, which is 256 bytes and here 2
-long_identifier : text_of_script (record whole { client = 2 }) (lines (codes "open 1" ∷ send (codes "1") (connect_as (codes "abc")) ∷ [])) []
+long_identifier : text_of_script (record whole { client = 2 })
+    (lines (codes "open 1" ∷ send (codes "1") (connect_as (codes "abc")) ∷ [])) []
     ≡ lines (codes "1< 2003008500" ∷ closed (codes "1") ∷ [])
 unfolding running
 long_identifier = refl
@@ -96,12 +102,14 @@ unfolding running
 too_many_sessions = refl
 
 -- a first packet that is no CONNECT is answered by nothing
-ping_before_connect : text_of_script whole (lines (codes "open 1" ∷ codes "send 1 C000" ∷ [])) [] ≡ lines (closed (codes "1") ∷ [])
+ping_before_connect : text_of_script whole (lines (codes "open 1" ∷ codes "send 1 C000" ∷ [])) []
+    ≡ lines (closed (codes "1") ∷ [])
 unfolding running
 ping_before_connect = refl
 
 -- nor is one whose length has a fifth byte
-first_length_too_long : text_of_script whole (lines (codes "open 1" ∷ codes "send 1 10FFFFFFFF" ∷ [])) [] ≡ lines (closed (codes "1") ∷ [])
+first_length_too_long : text_of_script whole (lines (codes "open 1" ∷ codes "send 1 10FFFFFFFF" ∷ [])) []
+    ≡ lines (closed (codes "1") ∷ [])
 unfolding running
 first_length_too_long = refl
 
@@ -132,14 +140,16 @@ unfolding running
 too_large = refl
 
 -- the greatest packet: the rest is waited for
-as_large_as_may_be : text_of_script whole (lines (a_connects ++ codes "send 1 30FCFF3F" ∷ [])) [] ≡ lines (k0 (codes "1") ∷ [])
+as_large_as_may_be : text_of_script whole (lines (a_connects ++ codes "send 1 30FCFF3F" ∷ [])) []
+    ≡ lines (k0 (codes "1") ∷ [])
 unfolding running
 as_large_as_may_be = refl
 
 -- ---- ping, keep alive and ends
 
 -- a PINGREQ in two pieces is answered once it is whole; then the client says good-bye
-ping_in_pieces : text_of_script whole (lines (a_connects ++ codes "send 1 C0" ∷ codes "send 1 00" ∷ codes "send 1 E000" ∷ [])) []
+ping_in_pieces : text_of_script whole
+    (lines (a_connects ++ codes "send 1 C0" ∷ codes "send 1 00" ∷ codes "send 1 E000" ∷ [])) []
     ≡ lines (k0 (codes "1") ∷ ponged (codes "1") ∷ closed (codes "1") ∷ [])
 unfolding running
 ping_in_pieces = refl
@@ -156,7 +166,8 @@ unfolding running
 still_alive = refl
 
 -- a ping begins that time anew
-ping_keeps_alive : text_of_script whole (lines (a_connects ++ codes "tick 90000" ∷ codes "send 1 C000" ∷ codes "tick 90000" ∷ [])) []
+ping_keeps_alive : text_of_script whole
+    (lines (a_connects ++ codes "tick 90000" ∷ codes "send 1 C000" ∷ codes "tick 90000" ∷ [])) []
     ≡ lines (k0 (codes "1") ∷ ponged (codes "1") ∷ [])
 unfolding running
 ping_keeps_alive = refl
@@ -181,7 +192,8 @@ interval_at_the_end = refl
 
 -- but a client that asked for no interval may not ask for one then
 interval_too_late : text_of_script whole
-    (lines (codes "open 1" ∷ codes "send 1 100E00044D5154540500003C00000161" ∷ codes "send 1 E0070005110000000A" ∷ [])) []
+    (lines (codes "open 1" ∷ codes "send 1 100E00044D5154540500003C00000161" ∷ codes "send 1 E0070005110000000A" ∷ []))
+    []
     ≡ lines (k0 (codes "1") ∷ codes "1< E00182" ∷ closed (codes "1") ∷ [])
 unfolding running
 interval_too_late = refl

@@ -1,12 +1,14 @@
--- Crashes and failing device calls: what comes again, what is stored once, and what an outcome in doubt leaves. The choices say what
--- each append, rotation, commit and cold read did, and where something pends whether it goes in.
+-- Crashes and failing device calls: what comes again, what is stored once, and what an outcome in doubt leaves. The
+-- choices say what each append, rotation, commit and cold read did, and where something pends whether it goes in.
 use Rattle.std.specs.Prelude.{ℕ, ◌≡◌, refl, List, [], ◌∷◌, ◌++◌, codes}
 use Rattle.topic_model.specs.Profile.{whole}
 use Rattle.shard_model.specs.Choices.{Choice, Works, Fails, GoesIn, GoesOut}
 use Rattle.world_model.specs.Computing.{running}
 use Rattle.world_model.specs.Running.{text_of_script}
-use Rattle.world_examples.specs.RowWords.{lines, send, send_m, publish, publish_m, closed, k0, k1, acknowledged, delivered, resent}
-use Rattle.world_examples.specs.RowWords.{a_connects, p_connects, both_there, both_there_text, published, published_text, comes_back}
+use Rattle.world_examples.specs.RowWords.{lines, send, send_m, publish, publish_m, closed, k0, k1, acknowledged}
+use Rattle.world_examples.specs.RowWords.{delivered, resent}
+use Rattle.world_examples.specs.RowWords.{a_connects, p_connects, both_there, both_there_text, published}
+use Rattle.world_examples.specs.RowWords.{published_text, comes_back}
 use Rattle.world_examples.specs.RowWords.{first_publish_lines, first_publish_text}
 
 -- so many calls that work come before some choices
@@ -29,18 +31,22 @@ resent_after_crash = refl
 
 -- A delivery with QoS 2 that was received before a crash is released after it, and ends with PUBCOMP.
 qos2_delivery_survives : text_of_script whole
-    (lines (a_connects ++ codes "send 1 82090001000003612F6202" ∷ p_connects ++ send (codes "2") (publish (codes "34") (codes "05"))
+    (lines
+    (a_connects ++ codes "send 1 82090001000003612F6202" ∷ p_connects
+    ++ send (codes "2") (publish (codes "34") (codes "05"))
     ∷ codes "send 2 62020005" ∷ codes "pump 1" ∷ codes "send 1 50020002" ∷ codes "crash 1"
     ∷ comes_back ++ codes "send 1 70020002" ∷ codes "pump 1" ∷ [])) []
     ≡ lines (k0 (codes "1") ∷ codes "1< 900400010002" ∷ k0 (codes "2") ∷ codes "2< 50020005" ∷ codes "2< 70020005"
-    ∷ codes "1< 340A0003612F620002006869" ∷ codes "1< 62020002" ∷ codes "crashed" ∷ k1 (codes "1") ∷ codes "1< 62020002" ∷ [])
+    ∷ codes "1< 340A0003612F620002006869" ∷ codes "1< 62020002" ∷ codes "crashed" ∷ k1 (codes "1") ∷ codes "1< 62020002"
+    ∷ [])
 unfolding running
 qos2_delivery_survives = refl
 
 -- `p` publishes with QoS 2 before a crash and sends the same again, before it and after it
 abbrev published_thrice : List (List ℕ)
 published_thrice =
-    p_connects ++ send (codes "2") (publish (codes "34") (codes "05")) ∷ send (codes "2") (publish (codes "3C") (codes "05"))
+    p_connects ++ send (codes "2") (publish (codes "34") (codes "05"))
+    ∷ send (codes "2") (publish (codes "3C") (codes "05"))
     ∷ codes "crash 0" ∷ p_connects ++ send (codes "2") (publish (codes "3C") (codes "05"))
     ∷ codes "send 2 62020005" ∷ codes "send 2 62020005" ∷ []
 
@@ -111,7 +117,8 @@ append_fails k =
     ++ send (codes "2") (publish (codes "3A") (codes "07")) ∷ codes "pump 1" ∷ []
 
 abbrev append_fails_text : List (List ℕ)
-append_fails_text = both_there_text ++ codes "2< E00183" ∷ closed (codes "2") ∷ k1 (codes "2") ∷ acknowledged (codes "2") (codes "07") ∷ []
+append_fails_text = both_there_text
+    ++ codes "2< E00183" ∷ closed (codes "2") ∷ k1 (codes "2") ∷ acknowledged (codes "2") (codes "07") ∷ []
 
 -- the first one was in, so there are two
 append_in_doubt : text_of_script whole (lines (append_fails (codes "4"))) (after_three (Fails ∷ Works ∷ GoesIn ∷ []))
@@ -133,24 +140,27 @@ abbrev stopped_append_text : List (List ℕ)
 stopped_append_text = both_there_text ++ codes "2< E00183" ∷ closed (codes "2") ∷ codes "crashed" ∷ k1 (codes "1") ∷ []
 
 -- a publish in doubt that is in after the crash is given
-every_stop_of_an_append_in : text_of_script whole (lines (stopped_append (codes "3") (codes "1"))) (after_three (Fails ∷ GoesIn ∷ []))
+every_stop_of_an_append_in : text_of_script whole (lines (stopped_append (codes "3") (codes "1")))
+    (after_three (Fails ∷ GoesIn ∷ []))
     ≡ lines (stopped_append_text ++ delivered (codes "1") (codes "01") ∷ [])
 unfolding running
 every_stop_of_an_append_in = refl
 
 -- one that isn't in is not
-every_stop_of_an_append_out : text_of_script whole (lines (stopped_append (codes "2") (codes "3"))) (after_three (Fails ∷ GoesOut ∷ []))
+every_stop_of_an_append_out : text_of_script whole (lines (stopped_append (codes "2") (codes "3")))
+    (after_three (Fails ∷ GoesOut ∷ []))
     ≡ lines stopped_append_text
 unfolding running
 every_stop_of_an_append_out = refl
 
 -- ---- cold bodies
 
--- The first message's generation is sealed when the second is published. A resend reads its body from the disk; a line may come before
--- the pump, and lines behind it.
+-- The first message's generation is sealed when the second is published. A resend reads its body from the disk; a line
+-- may come before the pump, and lines behind it.
 abbrev read_cold : List (List ℕ) → List (List ℕ)
 read_cold more =
-    codes "set messages 1" ∷ codes "set retention 1000" ∷ first_publish_lines ++ send_m (codes "2") ∷ codes "pump 1" ∷ codes "close 1"
+    codes "set messages 1" ∷ codes "set retention 1000" ∷ first_publish_lines
+    ++ send_m (codes "2") ∷ codes "pump 1" ∷ codes "close 1"
     ∷ a_connects ++ more
 
 abbrev read_cold_text : List (List ℕ)
@@ -163,15 +173,19 @@ cold_body : text_of_script whole (lines (read_cold (codes "pump 1" ∷ []))) [] 
 unfolding running
 cold_body = refl
 
--- A pump whose cold read fails gives nothing and leaves the connection open. Before it work three commits, an append, a pump's commit,
--- a rotation, an append, a pump's commit and that of the CONNECT.
-cold_read_fails : text_of_script whole (lines (read_cold (codes "fail 2 1" ∷ codes "pump 1" ∷ []))) (after_nine (Fails ∷ []))
-    ≡ lines (first_publish_text ++ acknowledged (codes "2") (codes "07") ∷ delivered (codes "1") (codes "03") ∷ k1 (codes "1") ∷ [])
+-- A pump whose cold read fails gives nothing and leaves the connection open. Before it work three commits, an append, a
+-- pump's commit, a rotation, an append, a pump's commit and that of the CONNECT.
+cold_read_fails : text_of_script whole (lines (read_cold (codes "fail 2 1" ∷ codes "pump 1" ∷ [])))
+    (after_nine (Fails ∷ []))
+    ≡ lines
+    (first_publish_text ++ acknowledged (codes "2") (codes "07") ∷ delivered (codes "1") (codes "03")
+    ∷ k1 (codes "1") ∷ [])
 unfolding running
 cold_read_fails = refl
 
 -- the next pump reads it
-cold_read_fails_once : text_of_script whole (lines (read_cold (codes "fail 2 1" ∷ codes "pump 1" ∷ codes "pump 1" ∷ [])))
+cold_read_fails_once : text_of_script whole
+    (lines (read_cold (codes "fail 2 1" ∷ codes "pump 1" ∷ codes "pump 1" ∷ [])))
     (after_nine (Fails ∷ []))
     ≡ lines read_cold_text
 unfolding running
@@ -207,14 +221,17 @@ group_not_in : text_of_script whole (lines group_fails) (after_three (Fails ∷ 
 unfolding running
 group_not_in = refl
 
--- The acknowledgements of one piece are one record. Two deliveries are acknowledged; the record fails, and then there is a crash.
+-- The acknowledgements of one piece are one record. Two deliveries are acknowledged; the record fails, and then there
+-- is a crash.
 abbrev record_fails : List (List ℕ)
 record_fails =
-    published ++ send_m (codes "2") ∷ codes "pump 1" ∷ codes "fail 10 4" ∷ codes "send 1 4002000140020003" ∷ codes "crash 1" ∷ comes_back
+    published ++ send_m (codes "2") ∷ codes "pump 1" ∷ codes "fail 10 4" ∷ codes "send 1 4002000140020003"
+    ∷ codes "crash 1" ∷ comes_back
 
 abbrev record_fails_text : List (List ℕ)
 record_fails_text =
-    published_text ++ acknowledged (codes "2") (codes "07") ∷ delivered (codes "1") (codes "01") ∷ delivered (codes "1") (codes "03")
+    published_text ++ acknowledged (codes "2") (codes "07") ∷ delivered (codes "1") (codes "01")
+    ∷ delivered (codes "1") (codes "03")
     ∷ codes "1< E00183" ∷ closed (codes "1") ∷ codes "crashed" ∷ k1 (codes "1") ∷ []
 
 -- the record is in: nothing comes again

@@ -3,7 +3,8 @@ use Rattle.std.specs.Prelude.{ℕ, ◌≡◌, refl, List, [], ◌∷◌, ◌++�
 use Rattle.topic_model.specs.Profile.{whole}
 use Rattle.world_model.specs.Computing.{running}
 use Rattle.world_model.specs.Running.{text_of_script}
-use Rattle.world_examples.specs.RowWords.{lines, send_m, says, k1, acknowledged, delivered, both_there, both_there_text, comes_back}
+use Rattle.world_examples.specs.RowWords.{lines, send_m, says, k1, acknowledged, delivered, both_there, both_there_text}
+use Rattle.world_examples.specs.RowWords.{comes_back}
 
 -- `p` publishes `hi` to `a/b`, which expires after ten seconds
 abbrev expiring : List (List ℕ)
@@ -14,7 +15,8 @@ expiring_text = both_there_text ++ acknowledged (codes "2") (codes "07") ∷ []
 
 -- a delivery of it, with its first byte, its identifier and the seconds that are left
 abbrev given : List ℕ → List ℕ → List ℕ → List ℕ
-given first identifier left = says (codes "1") (first ++ codes "0F0003612F6200" ++ identifier ++ codes "0502000000" ++ left ++ codes "6869")
+given first identifier left = says (codes "1")
+    (first ++ codes "0F0003612F6200" ++ identifier ++ codes "0502000000" ++ left ++ codes "6869")
 
 -- whole seconds that it has waited are taken off; sent again, more are
 counts_down : text_of_script whole
@@ -45,9 +47,14 @@ resent_with_nothing_left : text_of_script whole
 unfolding running
 resent_with_nothing_left = refl
 
--- A batch is cut where expired and unexpired messages meet: the first pump passes over the expired one, the second gives the other.
+-- A batch is cut where expired and unexpired messages meet: the first pump passes over the expired one, the second
+-- gives the other.
 cut_at_the_expired : text_of_script whole
-    (lines (expiring ++ send_m (codes "2") ∷ codes "tick 10000" ∷ codes "pump 1" ∷ codes "send 1 C000" ∷ codes "pump 1" ∷ [])) []
-    ≡ lines (expiring_text ++ acknowledged (codes "2") (codes "07") ∷ codes "1< D000" ∷ delivered (codes "1") (codes "01") ∷ [])
+    (lines
+    (expiring ++ send_m (codes "2") ∷ codes "tick 10000" ∷ codes "pump 1" ∷ codes "send 1 C000" ∷ codes "pump 1"
+    ∷ [])) []
+    ≡ lines
+    (expiring_text ++ acknowledged (codes "2") (codes "07") ∷ codes "1< D000" ∷ delivered (codes "1") (codes "01")
+    ∷ [])
 unfolding running
 cut_at_the_expired = refl

@@ -1,6 +1,7 @@
--- Lists of moves that would break a promise if they were allowed: takeovers and ends in between, two CONNECTs of one client,
--- answers before CONNACK, batches that overtake one another, answers for another binding.
-use Rattle.std.specs.Prelude.{ℕ, ◌+◌, ◌≡◌, refl, Bool, true, false, List, [], ◌∷◌, ◌++◌, map, replicate, codes, slice_get, Option, Some, None}
+-- Lists of moves that would break a promise if they were allowed: takeovers and ends in between, two CONNECTs of one
+-- client, answers before CONNACK, batches that overtake one another, answers for another binding.
+use Rattle.std.specs.Prelude.{ℕ, ◌+◌, ◌≡◌, refl, Bool, true, false, List, [], ◌∷◌, ◌++◌, map, replicate, codes}
+use Rattle.std.specs.Prelude.{slice_get, Option, Some, None}
 use Rattle.topic_model.specs.Profile.{Profile, Config, whole, default_config}
 use Rattle.shard_model.specs.Choices.{Fates, Fails, Works}
 use Rattle.shard_model.specs.ShardList.{ShardList, opening_list}
@@ -12,21 +13,21 @@ use Rattle.mqtt_packet.specs.Packet.{PlainPacket, Publish, Subscribe, Disconnect
 use Rattle.turn_model.specs.PlainConnection.{PlainConnection}
 use Rattle.turn_model.specs.Step.{IsFull}
 use Rattle.turn_model.specs.Worker.{Worker, Sent, Closed, opening_worker}
-use Rattle.turn_model.specs.WorkerMoves.{OfPackets, OfConnect, OfPump, OfItem, OfPacket, OfResend, by_client,
-    with_reason}
+use Rattle.turn_model.specs.WorkerMoves.{OfPackets, OfConnect, OfPump, OfItem, OfPacket, OfResend, by_client}
+use Rattle.turn_model.specs.WorkerMoves.{with_reason}
 use Rattle.turn_model.specs.WorkerMoves as Workers
 use Rattle.turn_model.specs.Draft.{Beside, Part, Pump, Tick, Done, no_report}
 use Rattle.turn_model.specs.Parts.{DropFailed, start_part, resume_part}
-use Rattle.world_model.specs.World.{World, Move, Begin, Store, Show, View, BeginCommit, Commit, SettleJournal, Emit, Bind,
-    TakeOver, Unbind, opening_world, world_step}
+use Rattle.world_model.specs.World.{World, Move, Begin, Store, Show, View, BeginCommit, Commit, SettleJournal, Emit}
+use Rattle.world_model.specs.World.{Bind, TakeOver, Unbind, opening_world, world_step}
 use Rattle.world_model.specs.Allowed.{world_allows}
 use Rattle.world_model.specs.Lines.{script_of}
 use Rattle.world_model.specs.Running.{final_state, text_of_script}
 use Rattle.world_model.specs.Computing.{running}
-use Rattle.world_examples.specs.HostileWords.{lines, send, one, two, opens, gets, ended, accepted, connect_a, listening,
-    at_least_once, exactly_once, of_hi}
-use Rattle.world_examples.specs.MoveRows.{both, outs_after, world_after, issues, pumps_out, hi, connect_of, accepted_as,
-    again_hi, subscribes, owed_in, parted_a}
+use Rattle.world_examples.specs.HostileWords.{lines, send, one, two, opens, gets, ended, accepted, connect_a, listening}
+use Rattle.world_examples.specs.HostileWords.{at_least_once, exactly_once, of_hi}
+use Rattle.world_examples.specs.MoveRows.{both, outs_after, world_after, issues, pumps_out, hi, connect_of, accepted_as}
+use Rattle.world_examples.specs.MoveRows.{again_hi, subscribes, owed_in, parted_a}
 
 -- ---- what is looked at
 
@@ -63,7 +64,8 @@ nothing_left_is_sent = refl
 -- ---- the old connection goes between a CONNECT's record and its Bind
 
 -- a takeover owes nothing, by whatever move the old connection goes
-old_one_ends : owed_in (world_after both (connects 3 (connect_of (codes "a")) ++ Unbind 0 1 by_client 5 ∷ Bind 0 3 5 ∷ [])) ≡ []
+old_one_ends : owed_in
+    (world_after both (connects 3 (connect_of (codes "a")) ++ Unbind 0 1 by_client 5 ∷ Bind 0 3 5 ∷ [])) ≡ []
 unfolding running
 old_one_ends = refl
 
@@ -82,18 +84,29 @@ old_one_ends_while_it_pends = refl
 
 abbrev clean_of : List ℕ → ConnectFields
 clean_of client =
-    record { clean = true; keep_alive = 60; props = Four 0x11 3600 ∷ []; client = client; will = None; user = None; password = None }
+    record {
+      clean = true;
+      keep_alive = 60;
+      props = Four 0x11 3600 ∷ [];
+      client = client;
+      will = None;
+      user =
+          None;
+      password = None;
+    }
 
 -- the second one began a new session: the first one's is gone, and it isn't bound to the new one
 bound_to_its_own_session : bound_in (world_after both
-    (connects 3 (connect_of (codes "a")) ++ connects 4 (clean_of (codes "a")) ++ TakeOver 0 1 ∷ Bind 0 3 0 ∷ Bind 0 4 0 ∷ []))
+    (connects 3 (connect_of (codes "a")) ++ connects 4 (clean_of (codes "a"))
+    ++ TakeOver 0 1 ∷ Bind 0 3 0 ∷ Bind 0 4 0 ∷ []))
     ≡ 2 ∷ 4 ∷ []
 unfolding running
 bound_to_its_own_session = refl
 
 -- nor does it take over the connection of the new session, which would have nobody then
 no_takeover_for_a_session_that_is_gone : world_allows whole
-    (world_after both (connects 3 (connect_of (codes "a")) ++ connects 4 (clean_of (codes "a")) ++ TakeOver 0 1 ∷ Bind 0 4 0 ∷ []))
+    (world_after both
+    (connects 3 (connect_of (codes "a")) ++ connects 4 (clean_of (codes "a")) ++ TakeOver 0 1 ∷ Bind 0 4 0 ∷ []))
     (TakeOver 0 4) ≡ false
 unfolding running
 no_takeover_for_a_session_that_is_gone = refl
@@ -109,7 +122,8 @@ one_session_two_connects = refl
 
 -- a CONNECT whose connection goes while its record pends
 left_while_it_pends : owed_in (world_after both
-    (BeginCommit 0 (OfConnect 3 (connect_of (codes "b"))) 0 ∷ Unbind 0 3 by_client 7 ∷ Commit 0 ∷ [])) ≡ parted_of (codes "b") 7 ∷ []
+    (BeginCommit 0 (OfConnect 3 (connect_of (codes "b"))) 0 ∷ Unbind 0 3 by_client 7 ∷ Commit 0 ∷ []))
+    ≡ parted_of (codes "b") 7 ∷ []
 unfolding running
 left_while_it_pends = refl
 
@@ -120,7 +134,8 @@ unfolding running
 left_before_its_bind = refl
 
 number_used_again : bound_in (world_after both
-    (connects 3 (connect_of (codes "b")) ++ Unbind 0 3 by_client 7 ∷ connects 3 (connect_of (codes "c")) ++ Bind 0 3 0 ∷ []))
+    (connects 3 (connect_of (codes "b")) ++ Unbind 0 3 by_client 7 ∷ connects 3 (connect_of (codes "c"))
+    ++ Bind 0 3 0 ∷ []))
     ≡ 1 ∷ 2 ∷ 3 ∷ []
 unfolding running
 number_used_again = refl
@@ -146,7 +161,8 @@ unfolding running
 at_its_own_worker = refl
 
 -- an assigned identifier leads home
-assigned_at_either : map (λ (worker : ℕ). world_allows whole two_workers (BeginCommit worker (OfConnect 3 (connect_of [])) 0)) (0 ∷ 1 ∷ [])
+assigned_at_either : map
+    (λ (worker : ℕ). world_allows whole two_workers (BeginCommit worker (OfConnect 3 (connect_of [])) 0)) (0 ∷ 1 ∷ [])
     ≡ true ∷ true ∷ []
 unfolding running
 assigned_at_either = refl
@@ -170,7 +186,8 @@ several_packets_within_the_limit : world_allows (record whole { changes = 1 }) b
 unfolding running
 several_packets_within_the_limit = refl
 
-one_packet_stays_together : world_allows (record whole { changes = 1 }) both (BeginCommit 0 (OfPackets 1 (two_wishes ∷ [])) 0) ≡ true
+one_packet_stays_together : world_allows (record whole { changes = 1 }) both
+    (BeginCommit 0 (OfPackets 1 (two_wishes ∷ [])) 0) ≡ true
 unfolding running
 one_packet_stays_together = refl
 
@@ -204,7 +221,8 @@ taken_over_packet = Disconnect (record { reason = 0x8E; props = [] })
 
 -- the answer of a group goes to the very binding that asked: not to the same client on the same number
 acknowledged_to_another_binding : outs_after both
-    (Begin 0 0 2 (Publish again_hi ∷ []) 0 ∷ connects 3 (connect_of (codes "p")) ++ TakeOver 0 2 ∷ Bind 0 3 0 ∷ Emit 0 (OfItem 0) 0
+    (Begin 0 0 2 (Publish again_hi ∷ []) 0 ∷ connects 3 (connect_of (codes "p"))
+    ++ TakeOver 0 2 ∷ Bind 0 3 0 ∷ Emit 0 (OfItem 0) 0
     ∷ connects 2 (connect_of (codes "p")) ++ TakeOver 0 3 ∷ Bind 0 2 0 ∷ Emit 0 (OfItem 0) 0
     ∷ Store 0 ∷ Emit 0 (OfItem 0) 0 ∷ [])
     ≡ Sent 2 taken_over_packet ∷ Closed 2 ∷ Sent 3 (accepted_as true) ∷ Sent 3 taken_over_packet ∷ Closed 3
@@ -216,7 +234,8 @@ acknowledged_to_another_binding = refl
 
 -- nothing is bound, and no record of a bound connection settled, while one pends
 no_bind_while_one_pends : world_allows whole
-    (world_after both (connects 3 (connect_of (codes "b")) ++ BeginCommit 0 (OfPackets 1 (subscribes ∷ [])) 0 ∷ [])) (Bind 0 3 0)
+    (world_after both (connects 3 (connect_of (codes "b")) ++ BeginCommit 0 (OfPackets 1 (subscribes ∷ [])) 0 ∷ []))
+    (Bind 0 3 0)
     ≡ false
 unfolding running
 no_bind_while_one_pends = refl
@@ -227,7 +246,8 @@ unfolding running
 not_settled_while_bound = refl
 
 settled_behind_its_end : world_allows whole
-    (world_after both (BeginCommit 0 (OfPackets 1 (subscribes ∷ [])) 0 ∷ Unbind 0 1 by_client 0 ∷ [])) (SettleJournal 0 true 0)
+    (world_after both (BeginCommit 0 (OfPackets 1 (subscribes ∷ [])) 0 ∷ Unbind 0 1 by_client 0 ∷ []))
+    (SettleJournal 0 true 0)
     ≡ true
 unfolding running
 settled_behind_its_end = refl
@@ -240,15 +260,18 @@ two_messages =
 
 abbrev issues_one : ℕ → ℕ → Issues
 issues_one offset number =
-    record (issues offset number) { sweep = record { generation = 0; base = 0; target = 2; stream = 0; position = offset + 1 } }
+    record (issues offset number)
+    { sweep = record { generation = 0; base = 0; target = 2; stream = 0; position = offset + 1 } }
 
-one_batch_at_once : world_allows whole (world_after two_messages (BeginCommit 0 (OfPump 1 (Some (issues_one 0 1))) 0 ∷ Commit 0 ∷ []))
+one_batch_at_once : world_allows whole
+    (world_after two_messages (BeginCommit 0 (OfPump 1 (Some (issues_one 0 1))) 0 ∷ Commit 0 ∷ []))
     (BeginCommit 0 (OfPump 1 (Some (issues_one 1 2))) 0) ≡ false
 unfolding running
 one_batch_at_once = refl
 
 the_next_batch_behind_it : world_allows whole
-    (world_after two_messages (BeginCommit 0 (OfPump 1 (Some (issues_one 0 1))) 0 ∷ Commit 0 ∷ Emit 0 (OfItem 0) 0 ∷ []))
+    (world_after two_messages
+    (BeginCommit 0 (OfPump 1 (Some (issues_one 0 1))) 0 ∷ Commit 0 ∷ Emit 0 (OfItem 0) 0 ∷ []))
     (BeginCommit 0 (OfPump 1 (Some (issues_one 1 2))) 0) ≡ true
 unfolding running
 the_next_batch_behind_it = refl
@@ -256,7 +279,8 @@ the_next_batch_behind_it = refl
 -- a message that expires in 10 seconds goes out with what it had left at the moment of its record
 abbrev expiring : World
 expiring =
-    (final_state whole (script_of (lines (listening at_least_once ++ send two (codes "320F0003612F62000705020000000A6869") ∷ [])))
+    (final_state whole
+    (script_of (lines (listening at_least_once ++ send two (codes "320F0003612F62000705020000000A6869") ∷ [])))
     []).world
 
 at_the_moment_of_its_record : outs_after expiring
@@ -278,18 +302,21 @@ at_the_moment_of_its_record = refl
 -- `p` has published with QoS 2 and identifier 5
 abbrev stored_twice_over : World
 stored_twice_over =
-    (final_state whole (script_of (lines (listening exactly_once ++ send two (of_hi (codes "34") (codes "05")) ∷ []))) []).world
+    (final_state whole (script_of (lines (listening exactly_once ++ send two (of_hi (codes "34") (codes "05")) ∷ [])))
+    []).world
 
 abbrev released : PlainPacket
 released = ack Pubrel 5 0 []
 
 abbrev again_five : PlainPacket
 again_five =
-    Publish (record { dup = false; qos = 2; retain = false; topic = codes "a/b"; id = 5; props = []; payload = codes "ho" })
+    Publish
+    (record { dup = false; qos = 2; retain = false; topic = codes "a/b"; id = 5; props = []; payload = codes "ho" })
 
 -- its identifier is released: a new message with it isn't acknowledged for the old one, though the view still awaits it
 no_answer_over_an_old_view : outs_after stored_twice_over
-    (View 0 0 ∷ Begin 0 0 2 (released ∷ []) 0 ∷ Store 0 ∷ Emit 0 (OfItem 0) 0 ∷ Emit 0 (OfPacket 2 again_five []) 0 ∷ [])
+    (View 0 0 ∷ Begin 0 0 2 (released ∷ []) 0 ∷ Store 0 ∷ Emit 0 (OfItem 0) 0 ∷ Emit 0 (OfPacket 2 again_five []) 0
+    ∷ [])
     ≡ Sent 2 (ack Pubcomp 5 0 []) ∷ []
 unfolding running
 no_answer_over_an_old_view = refl
@@ -345,9 +372,11 @@ nothing_settled_for_nobody = refl
 
 -- ---- lines
 
--- a CONNECT with an Authentication Method, of a client that takes packets of at most four bytes, and of one that takes five
+-- a CONNECT with an Authentication Method, of a client that takes packets of at most four bytes, and of one that takes
+-- five
 refused_without_a_word : text_of_script whole (lines (opens one
-    ∷ send one (codes "101700044D5154540500003C0927000000041500017800" ++ codes "0161") ∷ [])) [] ≡ lines (ended one ∷ [])
+    ∷ send one (codes "101700044D5154540500003C0927000000041500017800" ++ codes "0161") ∷ [])) []
+    ≡ lines (ended one ∷ [])
 unfolding running
 refused_without_a_word = refl
 
@@ -358,13 +387,15 @@ unfolding running
 refused_in_five_bytes = refl
 
 -- the mount behind a crash meets the failure that was armed: no record meets it again
-met_by_the_mount : text_of_script whole (lines (codes "fail 10 1" ∷ codes "crash 1" ∷ opens one ∷ send one connect_a ∷ []))
+met_by_the_mount : text_of_script whole
+    (lines (codes "fail 10 1" ∷ codes "crash 1" ∷ opens one ∷ send one connect_a ∷ []))
     (Fails ∷ Fails ∷ []) ≡ lines (codes "crashed" ∷ gets one accepted ∷ [])
 unfolding running
 met_by_the_mount = refl
 
 -- where the mount doesn't meet it, a record may
-met_behind_the_mount : text_of_script whole (lines (codes "fail 10 9" ∷ codes "crash 1" ∷ opens one ∷ send one connect_a ∷ []))
+met_behind_the_mount : text_of_script whole
+    (lines (codes "fail 10 9" ∷ codes "crash 1" ∷ opens one ∷ send one connect_a ∷ []))
     (Works ∷ Fails ∷ []) ≡ lines (codes "crashed" ∷ gets one (codes "2003008300") ∷ ended one ∷ [])
 unfolding running
 met_behind_the_mount = refl

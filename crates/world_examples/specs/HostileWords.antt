@@ -1,4 +1,5 @@
--- Words that the hostile rows share: lines of scripts and of texts, clients `a` and `p`, and the message `hi` of the topic `a/b`.
+-- Words that the hostile rows share: lines of scripts and of texts, clients `a` and `p`, and the message `hi` of the
+-- topic `a/b`.
 use Rattle.std.specs.Prelude.{ℕ, zero, suc, List, [], ◌∷◌, ◌++◌, codes}
 pub use Rattle.world_examples.specs.RowWords.{lines, send, connect_a, connect_p}
 use Rattle.shard_model.specs.Choices.{Choice, Works}
@@ -60,7 +61,8 @@ accepted_holding held = codes "200F00000C21" ++ held ++ codes "250027001000002A0
 abbrev pub resumed_holding : List ℕ → List ℕ
 resumed_holding held = codes "200F01000C21" ++ held ++ codes "250027001000002A00"
 
--- `hi` to the topic `a/b` without properties, by the first byte and the low byte of the identifier, from a publisher or to a subscriber
+-- `hi` to the topic `a/b` without properties, by the first byte and the low byte of the identifier, from a publisher or
+-- to a subscriber
 abbrev pub of_hi : List ℕ → List ℕ → List ℕ
 of_hi header low = header ++ codes "0A0003612F6200" ++ low ++ codes "006869"
 
@@ -81,7 +83,8 @@ exactly_once = codes "02"
 
 abbrev pub listening : List ℕ → List (List ℕ)
 listening qos =
-    opens one ∷ send one connect_a ∷ send one (codes "82090001000003612F62" ++ qos) ∷ opens two ∷ send two connect_p ∷ []
+    opens one ∷ send one connect_a ∷ send one (codes "82090001000003612F62" ++ qos) ∷ opens two ∷ send two connect_p
+    ∷ []
 
 -- the text of these lines
 abbrev pub heard : List ℕ → List (List ℕ)

@@ -1,5 +1,6 @@
 -- Lists of moves that no turn makes: what isn't allowed changes nothing, and nothing goes out that isn't in.
-use Rattle.std.specs.Prelude.{ℕ, ◌≡◌, refl, Bool, true, false, List, [], ◌∷◌, ◌++◌, map, codes, slice_get, Option, Some, None}
+use Rattle.std.specs.Prelude.{ℕ, ◌≡◌, refl, Bool, true, false, List, [], ◌∷◌, ◌++◌, map, codes, slice_get, Option, Some}
+use Rattle.std.specs.Prelude.{None}
 use Rattle.topic_model.specs.Profile.{whole}
 use Rattle.session_model.specs.declared.entry.Kind.TheVariants.{Track1}
 use Rattle.session_model.specs.Change.{Change, Issues, Parted, change}
@@ -7,11 +8,14 @@ use Rattle.session_model.specs.PlainSession.{PlainSession}
 use Rattle.mqtt_props.specs.declared.prop.Prop.TheVariants.{Byte, Two, Four}
 use Rattle.mqtt_packet.specs.declared.packet.AckKind.TheVariants.{Puback}
 use Rattle.mqtt_packet.specs.declared.packet.Wish.{Wish}
-use Rattle.mqtt_packet.specs.Packet.{PlainPacket, Connect, Connack, Publish, Subscribe, ConnectFields, PublishFields, ack}
+use Rattle.mqtt_packet.specs.Packet.{PlainPacket, Connect, Connack, Publish, Subscribe, ConnectFields, PublishFields}
+use Rattle.mqtt_packet.specs.Packet.{ack}
 use Rattle.turn_model.specs.PlainConnection.{PlainConnection}
 use Rattle.turn_model.specs.Worker.{Worker, Out, Sent, Closed}
-use Rattle.turn_model.specs.WorkerMoves.{Cause, OfPackets, OfConnect, OfPump, OfTick, OfOwed, OfItem, OfPacket, OfResend, by_client}
-use Rattle.world_model.specs.World.{World, Move, Begin, Store, Show, View, BeginCommit, Commit, SettleJournal, Emit, Bind, TakeOver, Unbind, world_step, world_outs}
+use Rattle.turn_model.specs.WorkerMoves.{Cause, OfPackets, OfConnect, OfPump, OfTick, OfOwed, OfItem, OfPacket}
+use Rattle.turn_model.specs.WorkerMoves.{OfResend, by_client}
+use Rattle.world_model.specs.World.{World, Move, Begin, Store, Show, View, BeginCommit, Commit, SettleJournal, Emit}
+use Rattle.world_model.specs.World.{Bind, TakeOver, Unbind, world_step, world_outs}
 use Rattle.world_model.specs.Allowed.{world_allows}
 use Rattle.world_model.specs.Lines.{script_of}
 use Rattle.world_model.specs.Running.{State, final_state}
@@ -20,7 +24,9 @@ use Rattle.world_examples.specs.HostileWords.{lines, send, one, two, opens, list
 
 -- `a` on connection 1 has a subscription to `a/b`, and `p` on connection 2 has published `hi` to it
 abbrev pub both : World
-both = (final_state whole (script_of (lines (listening at_least_once ++ send two (of_hi (codes "32") (codes "07")) ∷ []))) []).world
+both =
+    (final_state whole (script_of (lines (listening at_least_once ++ send two (of_hi (codes "32") (codes "07")) ∷ [])))
+    []).world
 
 -- what a list of moves puts out
 abbrev pub outs_after : World → List Move → List Out
@@ -46,7 +52,9 @@ abbrev pub pumps_out : ℕ → ℕ → List Move
 pumps_out offset number = BeginCommit 0 (OfPump 1 (Some (issues offset number))) 0 ∷ Commit 0 ∷ Emit 0 (OfItem 0) 0 ∷ []
 
 abbrev pub hi : ℕ → PlainPacket
-hi id = Publish (record { dup = false; qos = 1; retain = false; topic = codes "a/b"; id = id; props = []; payload = codes "hi" })
+hi id =
+    Publish
+    (record { dup = false; qos = 1; retain = false; topic = codes "a/b"; id = id; props = []; payload = codes "hi" })
 
 -- the message goes out with the next number, once
 right_batch : outs_after both (pumps_out 0 1 ++ Emit 0 (OfItem 0) 0 ∷ []) ≡ Sent 1 (hi 1) ∷ []
@@ -66,20 +74,24 @@ issued_twice : outs_after both (pumps_out 0 1 ++ pumps_out 0 2) ≡ Sent 1 (hi 1
 unfolding running
 issued_twice = refl
 
--- a record that isn't in, one that is found to be in by a settle, one behind which a View came, and one whose connection has ended
+-- a record that isn't in, one that is found to be in by a settle, one behind which a View came, and one whose
+-- connection has ended
 not_committed : outs_after both (BeginCommit 0 (OfPump 1 (Some (issues 0 1))) 0 ∷ Emit 0 (OfItem 0) 0 ∷ []) ≡ []
 unfolding running
 not_committed = refl
 
-settled_in : outs_after both (BeginCommit 0 (OfPump 1 (Some (issues 0 1))) 0 ∷ SettleJournal 0 true 0 ∷ Emit 0 (OfItem 0) 0 ∷ []) ≡ []
+settled_in : outs_after both
+    (BeginCommit 0 (OfPump 1 (Some (issues 0 1))) 0 ∷ SettleJournal 0 true 0 ∷ Emit 0 (OfItem 0) 0 ∷ []) ≡ []
 unfolding running
 settled_in = refl
 
-aged_by_a_view : outs_after both (BeginCommit 0 (OfPump 1 (Some (issues 0 1))) 0 ∷ View 0 0 ∷ Commit 0 ∷ Emit 0 (OfItem 0) 0 ∷ []) ≡ []
+aged_by_a_view : outs_after both
+    (BeginCommit 0 (OfPump 1 (Some (issues 0 1))) 0 ∷ View 0 0 ∷ Commit 0 ∷ Emit 0 (OfItem 0) 0 ∷ []) ≡ []
 unfolding running
 aged_by_a_view = refl
 
-ended_before_commit : outs_after both (BeginCommit 0 (OfPump 1 (Some (issues 0 1))) 0 ∷ Unbind 0 1 by_client 0 ∷ Commit 0 ∷ Emit 0 (OfItem 0) 0 ∷ []) ≡ []
+ended_before_commit : outs_after both
+    (BeginCommit 0 (OfPump 1 (Some (issues 0 1))) 0 ∷ Unbind 0 1 by_client 0 ∷ Commit 0 ∷ Emit 0 (OfItem 0) 0 ∷ []) ≡ []
 unfolding running
 ended_before_commit = refl
 
@@ -87,25 +99,39 @@ ended_before_commit = refl
 
 abbrev pub connect_of : List ℕ → ConnectFields
 connect_of client =
-    record { clean = false; keep_alive = 60; props = Four 0x11 3600 ∷ []; client = client; will = None; user = None; password = None }
+    record {
+      clean = false;
+      keep_alive = 60;
+      props = Four 0x11 3600 ∷ [];
+      client = client;
+      will = None;
+      user =
+          None;
+      password = None;
+    }
 
 abbrev pub accepted_as : Bool → PlainPacket
 accepted_as present =
-    Connack (record { present = present; reason = 0; props = Two 0x21 32 ∷ Byte 0x25 0 ∷ Four 0x27 1048576 ∷ Byte 0x2A 0 ∷ [] })
+    Connack
+    (record
+    { present = present; reason = 0; props = Two 0x21 32 ∷ Byte 0x25 0 ∷ Four 0x27 1048576 ∷ Byte 0x2A 0 ∷ [] })
 
 abbrev pub again_hi : PublishFields
-again_hi = record { dup = false; qos = 1; retain = false; topic = codes "a/b"; id = 9; props = []; payload = codes "hi" }
+again_hi =
+    record { dup = false; qos = 1; retain = false; topic = codes "a/b"; id = 9; props = []; payload = codes "hi" }
 
 -- `p` publishes, its connection ends, and `b` comes on that number before the group is in: it is told nothing of it
 acknowledged_to_another : outs_after both
-    (Begin 0 0 2 (Publish again_hi ∷ []) 0 ∷ Unbind 0 2 by_client 0 ∷ BeginCommit 0 (OfConnect 2 (connect_of (codes "b"))) 0 ∷ Commit 0 ∷ Bind 0 2 0
+    (Begin 0 0 2 (Publish again_hi ∷ []) 0 ∷ Unbind 0 2 by_client 0
+    ∷ BeginCommit 0 (OfConnect 2 (connect_of (codes "b"))) 0 ∷ Commit 0 ∷ Bind 0 2 0
     ∷ Emit 0 (OfItem 0) 0 ∷ Store 0 ∷ Emit 0 (OfItem 0) 0 ∷ [])
     ≡ Sent 2 (accepted_as false) ∷ []
 unfolding running
 acknowledged_to_another = refl
 
 -- while its client is there the group is acknowledged, once
-acknowledged_to_its_own : outs_after both (Begin 0 0 2 (Publish again_hi ∷ []) 0 ∷ Store 0 ∷ Emit 0 (OfItem 0) 0 ∷ Emit 0 (OfItem 0) 0 ∷ [])
+acknowledged_to_its_own : outs_after both
+    (Begin 0 0 2 (Publish again_hi ∷ []) 0 ∷ Store 0 ∷ Emit 0 (OfItem 0) 0 ∷ Emit 0 (OfItem 0) 0 ∷ [])
     ≡ Sent 2 (ack Puback 9 0 []) ∷ []
 unfolding running
 acknowledged_to_its_own = refl
@@ -142,7 +168,10 @@ unfolding running
 no_second_record = refl
 
 bound_once : map (λ (k : PlainConnection). k.number)
-    (elim (slice_get (world_after both (BeginCommit 0 (OfConnect 3 (connect_of (codes "a"))) 0 ∷ Commit 0 ∷ Bind 0 3 0 ∷ [])).workers 0)
+    (elim
+    (slice_get
+    (world_after both (BeginCommit 0 (OfConnect 3 (connect_of (codes "a"))) 0 ∷ Commit 0 ∷ Bind 0 3 0 ∷ [])).workers
+    0)
     as (λ w. List PlainConnection) [ None ↦ [] | Some w ↦ w.connections ])
     ≡ 1 ∷ 2 ∷ []
 unfolding running
@@ -150,7 +179,10 @@ bound_once = refl
 
 -- behind the takeover it is
 bound_behind_the_takeover : map (λ (k : PlainConnection). k.number)
-    (elim (slice_get (world_after both (BeginCommit 0 (OfConnect 3 (connect_of (codes "a"))) 0 ∷ Commit 0 ∷ TakeOver 0 1 ∷ Bind 0 3 0 ∷ [])).workers 0)
+    (elim
+    (slice_get
+    (world_after both
+    (BeginCommit 0 (OfConnect 3 (connect_of (codes "a"))) 0 ∷ Commit 0 ∷ TakeOver 0 1 ∷ Bind 0 3 0 ∷ [])).workers 0)
     as (λ w. List PlainConnection) [ None ↦ [] | Some w ↦ w.connections ])
     ≡ 2 ∷ 3 ∷ []
 unfolding running
@@ -181,6 +213,8 @@ unfolding running
 owed_no_more = refl
 
 -- what comes to be owed while a record pends is owed behind it
-owed_meanwhile : owed_in (world_after both (BeginCommit 0 (OfPackets 2 (subscribes ∷ [])) 5 ∷ Unbind 0 1 by_client 5 ∷ Commit 0 ∷ [])) ≡ parted_a ∷ []
+owed_meanwhile : owed_in
+    (world_after both (BeginCommit 0 (OfPackets 2 (subscribes ∷ [])) 5 ∷ Unbind 0 1 by_client 5 ∷ Commit 0 ∷ []))
+    ≡ parted_a ∷ []
 unfolding running
 owed_meanwhile = refl

@@ -3,8 +3,10 @@ use Rattle.std.specs.Prelude.{ℕ, ◌≡◌, refl, List, [], ◌∷◌, ◌++�
 use Rattle.topic_model.specs.Profile.{whole}
 use Rattle.world_model.specs.Computing.{running}
 use Rattle.world_model.specs.Running.{text_of_script}
-use Rattle.world_examples.specs.RowWords.{k0_holding, lines, each, two_bytes, send, publish, publish_m, publish_numbered}
-use Rattle.world_examples.specs.RowWords.{says, closed, k0, acknowledged, delivered, connect_a, connect_p, a_connects, p_connects}
+use Rattle.world_examples.specs.RowWords.{k0_holding, lines, each, two_bytes, send, publish, publish_m}
+use Rattle.world_examples.specs.RowWords.{publish_numbered}
+use Rattle.world_examples.specs.RowWords.{says, closed, k0, acknowledged, delivered, connect_a, connect_p, a_connects}
+use Rattle.world_examples.specs.RowWords.{p_connects}
 use Rattle.world_examples.specs.RowWords.{both_there, both_there_text, first_publish_lines, first_publish_text}
 
 -- `a` subscribes, `p` publishes, and the first pump delivers what the second has no more
@@ -20,7 +22,9 @@ byte_by_byte connection (high ∷ low ∷ rest) = send connection (high ∷ low 
 
 -- how its packets are cut changes nothing
 cut_at_each_byte : text_of_script whole
-    (lines (codes "open 1" ∷ byte_by_byte (codes "1") connect_a ++ byte_by_byte (codes "1") (codes "82090001000003612F6201")
+    (lines
+    (codes "open 1" ∷ byte_by_byte (codes "1") connect_a
+    ++ byte_by_byte (codes "1") (codes "82090001000003612F6201")
     ++ codes "open 2" ∷ byte_by_byte (codes "2") connect_p ++ byte_by_byte (codes "2") publish_m
     ++ codes "pump 1" ∷ codes "pump 1" ∷ [])) []
     ≡ lines first_publish_text
@@ -36,7 +40,9 @@ dollar_topic = refl
 -- the properties of a publisher are given to a subscriber, in ascending order
 properties_in_order : text_of_script whole
     (lines (both_there ++ codes "send 2 32130003612F620007092600016100016201016869" ∷ codes "pump 1" ∷ [])) []
-    ≡ lines (both_there_text ++ acknowledged (codes "2") (codes "07") ∷ codes "1< 32130003612F620001090101260001610001626869" ∷ [])
+    ≡ lines
+    (both_there_text ++ acknowledged (codes "2") (codes "07")
+    ∷ codes "1< 32130003612F620001090101260001610001626869" ∷ [])
 unfolding running
 properties_in_order = refl
 
@@ -96,7 +102,9 @@ received_nothing = refl
 
 -- a publish that is sent again is stored once; its identifier is released once
 qos2_repeated : text_of_script whole
-    (lines (p_connects ++ send (codes "2") (publish (codes "34") (codes "05")) ∷ send (codes "2") (publish (codes "34") (codes "05"))
+    (lines
+    (p_connects ++ send (codes "2") (publish (codes "34") (codes "05"))
+    ∷ send (codes "2") (publish (codes "34") (codes "05"))
     ∷ codes "send 2 62020005" ∷ codes "send 2 62020005" ∷ codes "look" ∷ [])) []
     ≡ lines (k0 (codes "2") ∷ codes "2< 50020005" ∷ codes "2< 50020005" ∷ codes "2< 70020005" ∷ codes "2< 7003000592"
     ∷ codes "shard 0 floor 0 next 1 awaiting 0"
@@ -108,7 +116,8 @@ unfolding running
 qos2_repeated = refl
 
 -- between PUBREC and PUBREL the identifier is awaited
-qos2_awaited : text_of_script whole (lines (p_connects ++ send (codes "2") (publish (codes "34") (codes "05")) ∷ codes "look" ∷ [])) []
+qos2_awaited : text_of_script whole
+    (lines (p_connects ++ send (codes "2") (publish (codes "34") (codes "05")) ∷ codes "look" ∷ [])) []
     ≡ lines (k0 (codes "2") ∷ codes "2< 50020005"
     ∷ codes "shard 0 floor 0 next 1 awaiting 1"
     ∷ codes " generation 0 first 0 next 1 streams 1"
@@ -133,15 +142,21 @@ thirty_three_held = refl
 
 -- the same where 2 may be held; a released one makes room
 three_held : text_of_script (record whole { held = 2 })
-    (lines (p_connects ++ qos2_publishes 2 ++ codes "send 2 62020001" ∷ send (codes "2") (publish (codes "34") (codes "03"))
+    (lines
+    (p_connects ++ qos2_publishes 2
+    ++ codes "send 2 62020001" ∷ send (codes "2") (publish (codes "34") (codes "03"))
     ∷ send (codes "2") (publish (codes "34") (codes "04")) ∷ [])) []
-    ≡ lines (k0_holding (codes "0002") (codes "2") ∷ receipts 2 ++ codes "2< 70020001" ∷ codes "2< 50020003" ∷ codes "2< E00193" ∷ closed (codes "2") ∷ [])
+    ≡ lines
+    (k0_holding (codes "0002") (codes "2") ∷ receipts 2
+    ++ codes "2< 70020001" ∷ codes "2< 50020003" ∷ codes "2< E00193" ∷ closed (codes "2") ∷ [])
 unfolding running
 three_held = refl
 
 -- a shard awaits so many identifiers, here 2 and not 4,096; the next publish isn't stored, and is when one was released
 too_many_awaited : text_of_script (record whole { awaited = 2 })
-    (lines (p_connects ++ qos2_publishes 3 ++ codes "send 2 62020001" ∷ send (codes "2") (publish (codes "34") (codes "03")) ∷ [])) []
+    (lines
+    (p_connects ++ qos2_publishes 3
+    ++ codes "send 2 62020001" ∷ send (codes "2") (publish (codes "34") (codes "03")) ∷ [])) []
     ≡ lines (k0 (codes "2") ∷ receipts 2 ++ codes "2< 5003000397" ∷ codes "2< 70020001" ∷ codes "2< 50020003" ∷ [])
 unfolding running
 too_many_awaited = refl

@@ -1,5 +1,5 @@
--- Words that the worked scripts and their texts share: lines, what clients send, what the broker answers. Packets are texts of
--- hexadecimal digits; a connection is the text of its number.
+-- Words that the worked scripts and their texts share: lines, what clients send, what the broker answers. Packets are
+-- texts of hexadecimal digits; a connection is the text of its number.
 use Rattle.std.specs.Prelude.{ℕ, zero, suc, ◌+◌, ◌/◌, ◌%◌, List, [], ◌∷◌, ◌++◌, length, codes}
 use Rattle.hex.specs.Hex.{encode_upper}
 
@@ -32,7 +32,8 @@ send connection packet = codes "send " ++ connection ++ codes " " ++ packet
 -- a CONNECT with a keep alive of a minute and an interval of an hour, its client identifier given as a list of bytes
 abbrev pub connect_as : List ℕ → List ℕ
 connect_as client =
-    encode_upper (16 ∷ (18 + length client) ∷ []) ++ codes "00044D5154540500003C051100000E10" ++ encode_upper (0 ∷ length client ∷ client)
+    encode_upper (16 ∷ (18 + length client) ∷ []) ++ codes "00044D5154540500003C051100000E10"
+    ++ encode_upper (0 ∷ length client ∷ client)
 
 -- such a CONNECT of the clients `a` and `p`
 abbrev pub connect_a : List ℕ
@@ -64,7 +65,8 @@ publish_numbered first identifier = first ++ codes "0A0003612F62" ++ two_bytes i
 
 -- a PUBLISH of `hi` to a topic of `a/` and one digit, both given as digits
 abbrev pub publish_under_a : List ℕ → List ℕ → List ℕ → List ℕ
-publish_under_a first level identifier = first ++ codes "0A0003612F" ++ level ++ codes "00" ++ identifier ++ codes "006869"
+publish_under_a first level identifier =
+    first ++ codes "0A0003612F" ++ level ++ codes "00" ++ identifier ++ codes "006869"
 
 -- ---- lines that are printed
 

@@ -5,8 +5,10 @@ use Rattle.hex.specs.Hex.{encode_upper}
 use Rattle.topic_model.specs.Profile.{whole}
 use Rattle.world_model.specs.Computing.{running}
 use Rattle.world_model.specs.Running.{text_of_script}
-use Rattle.world_examples.specs.RowWords.{lines, each, one_byte, two_bytes, send, send_m, connect_as, publish, publish_under_a, says, k0, k1}
-use Rattle.world_examples.specs.RowWords.{granted_one, acknowledged, ponged, delivered, resent, a_connects, p_connects, comes_back, pump_and_ping}
+use Rattle.world_examples.specs.RowWords.{lines, each, one_byte, two_bytes, send, send_m, connect_as, publish}
+use Rattle.world_examples.specs.RowWords.{publish_under_a, says, k0, k1}
+use Rattle.world_examples.specs.RowWords.{granted_one, acknowledged, ponged, delivered, resent, a_connects, p_connects}
+use Rattle.world_examples.specs.RowWords.{comes_back, pump_and_ping}
 use Rattle.world_examples.specs.RowWords.{first_publish_lines, first_publish_text}
 
 -- ---- a wildcard is learned
@@ -33,14 +35,16 @@ five_waiting_text = k0 (codes "1") ∷ granted_one (codes "1") ∷ k0 (codes "2"
 -- the streams' deliveries, with the first byte given: `a/1` twice, `a/2`, and the learned `a/+` with `a/3` and `a/4`
 abbrev of_first_stream : List ℕ → List (List ℕ)
 of_first_stream first =
-    says (codes "1") (publish_under_a first (codes "31") (codes "01")) ∷ says (codes "1") (publish_under_a first (codes "31") (codes "03")) ∷ []
+    says (codes "1") (publish_under_a first (codes "31") (codes "01"))
+    ∷ says (codes "1") (publish_under_a first (codes "31") (codes "03")) ∷ []
 
 abbrev of_second_stream : List ℕ → List (List ℕ)
 of_second_stream first = says (codes "1") (publish_under_a first (codes "32") (codes "05")) ∷ []
 
 abbrev of_learned_stream : List ℕ → List (List ℕ)
 of_learned_stream first =
-    says (codes "1") (publish_under_a first (codes "33") (codes "07")) ∷ says (codes "1") (publish_under_a first (codes "34") (codes "09")) ∷ []
+    says (codes "1") (publish_under_a first (codes "33") (codes "07"))
+    ∷ says (codes "1") (publish_under_a first (codes "34") (codes "09")) ∷ []
 
 abbrev of_all_streams : List ℕ → List (List ℕ)
 of_all_streams first = of_first_stream first ++ of_second_stream first ++ of_learned_stream first
@@ -54,11 +58,13 @@ five_in_three_streams =
     ∷ codes "  stream 2 a/+ count 2"
     ∷ codes "worker 0" ∷ []
 
--- A node that has its two tokens takes `+` for the others. A subscriber is given stream after stream, and after a crash the same
--- packets in the same order.
+-- A node that has its two tokens takes `+` for the others. A subscriber is given stream after stream, and after a crash
+-- the same packets in the same order.
 learns_a_wildcard : text_of_script whole
     (lines (five_waiting ++ codes "pump 1" ∷ codes "pump 1" ∷ codes "pump 1" ∷ codes "crash 1" ∷ comes_back)) []
-    ≡ lines (five_waiting_text ++ of_all_streams (codes "32") ++ codes "crashed" ∷ k1 (codes "1") ∷ of_all_streams (codes "3A"))
+    ≡ lines
+    (five_waiting_text ++ of_all_streams (codes "32")
+    ++ codes "crashed" ∷ k1 (codes "1") ∷ of_all_streams (codes "3A"))
 unfolding running
 learns_a_wildcard = refl
 
@@ -70,7 +76,8 @@ unfolding running
 a_stream_a_pump = refl
 
 -- the patterns before a crash and after it
-learned_before_and_after : text_of_script whole (lines (five_waiting ++ codes "look" ∷ codes "crash 1" ∷ codes "look" ∷ [])) []
+learned_before_and_after : text_of_script whole
+    (lines (five_waiting ++ codes "look" ∷ codes "crash 1" ∷ codes "look" ∷ [])) []
     ≡ lines (five_waiting_text
     ++ five_in_three_streams ++ codes " session a subs 1 unfinished 0" ∷ codes " session p subs 0 unfinished 0"
     ∷ codes "crashed"
@@ -88,7 +95,9 @@ looks = refl
 finds_in_a_learned_stream : text_of_script whole
     (lines (codes "set below 2" ∷ a_connects ++ codes "send 1 82090001000003612F3301" ∷ p_connects ++ five_topics
     ++ codes "pump 1" ∷ codes "pump 1" ∷ [])) []
-    ≡ lines (k0 (codes "1") ∷ granted_one (codes "1") ∷ k0 (codes "2") ∷ five_topics_text ++ codes "1< 320A0003612F330001006869" ∷ [])
+    ≡ lines
+    (k0 (codes "1") ∷ granted_one (codes "1") ∷ k0 (codes "2") ∷ five_topics_text
+    ++ codes "1< 320A0003612F330001006869" ∷ [])
 unfolding running
 finds_in_a_learned_stream = refl
 
@@ -103,7 +112,8 @@ reading first identifier device =
 -- so many devices connect one after the other, publish a reading and go
 abbrev device_lines : ℕ → List (List ℕ)
 device_lines device =
-    codes "open 2" ∷ send (codes "2") (connect_as (codes "d" ++ decimal device)) ∷ send (codes "2") (reading 50 7 device)
+    codes "open 2" ∷ send (codes "2") (connect_as (codes "d" ++ decimal device))
+    ∷ send (codes "2") (reading 50 7 device)
     ∷ codes "close 2" ∷ []
 
 abbrev device_text : ℕ → List (List ℕ)
@@ -111,7 +121,8 @@ device_text device = k0 (codes "2") ∷ acknowledged (codes "2") (codes "07") �
 
 -- `a` subscribes to `site/+/temp` and goes before
 abbrev devices : ℕ → List (List ℕ)
-devices n = a_connects ++ codes "send 1 8211000100000B736974652F2B2F74656D7001" ∷ codes "close 1" ∷ each device_lines 0 n
+devices n = a_connects ++ codes "send 1 8211000100000B736974652F2B2F74656D7001" ∷ codes "close 1"
+    ∷ each device_lines 0 n
 
 abbrev devices_text : ℕ → List (List ℕ)
 devices_text n = k0 (codes "1") ∷ granted_one (codes "1") ∷ each device_text 0 n
@@ -122,14 +133,16 @@ readings from n = each (λ (device : ℕ). says (codes "1") (reading 50 (2 * dev
 
 -- each of the first readings, and a PINGRESP behind it
 abbrev readings_one_by_one : ℕ → List (List ℕ)
-readings_one_by_one n = each (λ (device : ℕ). says (codes "1") (reading 50 (2 * device + 1) device) ∷ ponged (codes "1") ∷ []) 0 n
+readings_one_by_one n =
+    each (λ (device : ℕ). says (codes "1") (reading 50 (2 * device + 1) device) ∷ ponged (codes "1") ∷ []) 0 n
 
 -- the shard after so many devices, ten of them with a stream of their own
 abbrev devices_shard : ℕ → List (List ℕ)
 devices_shard n =
     (codes "shard 0 floor 0 next " ++ decimal n ++ codes " awaiting 0")
     ∷ (codes " generation 0 first 0 next " ++ decimal n ++ codes " streams 11")
-    ∷ each (λ (k : ℕ). (codes "  stream " ++ decimal k ++ codes " site/" ++ decimal k ++ codes "/temp count 1") ∷ []) 0 10
+    ∷ each (λ (k : ℕ). (codes "  stream " ++ decimal k ++ codes " site/" ++ decimal k ++ codes "/temp count 1") ∷ []) 0
+    10
     ++ (codes "  stream 10 site/+/temp count " ++ decimal (n - 10)) ∷ []
 
 abbrev devices_worker : ℕ → List (List ℕ)
@@ -140,22 +153,29 @@ devices_worker n =
 -- thirty devices: ten pumps of one reading each, and one of the other twenty
 thirty_devices : text_of_script whole
     (lines (devices 30 ++ a_connects ++ each (λ (k : ℕ). pump_and_ping) 0 12 ++ codes "ack 1" ∷ codes "look" ∷ [])) []
-    ≡ lines (devices_text 30 ++ k1 (codes "1") ∷ readings_one_by_one 10 ++ readings 10 20 ++ ponged (codes "1") ∷ ponged (codes "1")
+    ≡ lines
+    (devices_text 30 ++ k1 (codes "1") ∷ readings_one_by_one 10 ++ readings 10 20
+    ++ ponged (codes "1") ∷ ponged (codes "1")
     ∷ devices_shard 30 ++ devices_worker 30)
 unfolding running
 thirty_devices = refl
 
 -- after their publishes and after a crash the same streams
-thirty_devices_crash : text_of_script whole (lines (devices 30 ++ codes "look" ∷ codes "crash 1" ∷ codes "look" ∷ [])) []
-    ≡ lines (devices_text 30 ++ devices_shard 30 ++ devices_worker 30 ++ codes "crashed" ∷ devices_shard 30 ++ devices_worker 30)
+thirty_devices_crash : text_of_script whole
+    (lines (devices 30 ++ codes "look" ∷ codes "crash 1" ∷ codes "look" ∷ [])) []
+    ≡ lines
+    (devices_text 30 ++ devices_shard 30 ++ devices_worker 30 ++ codes "crashed" ∷ devices_shard 30
+    ++ devices_worker 30)
 unfolding running
 thirty_devices_crash = refl
 
--- two hundred devices leave eleven streams, the last one of 190 messages: ten pumps of one reading each, then 64, 64 and 62
+-- two hundred devices leave eleven streams, the last one of 190 messages: ten pumps of one reading each, then 64, 64
+-- and 62
 two_hundred_devices : text_of_script whole
     (lines (devices 200 ++ a_connects ++ each (λ (k : ℕ). pump_and_ping) 0 13 ++ codes "ack 1" ∷ codes "look" ∷ [])) []
     ≡ lines (devices_text 200 ++ k1 (codes "1") ∷ readings_one_by_one 10
-    ++ readings 10 64 ++ ponged (codes "1") ∷ readings 74 64 ++ ponged (codes "1") ∷ readings 138 62 ++ ponged (codes "1")
+    ++ readings 10 64 ++ ponged (codes "1") ∷ readings 74 64 ++ ponged (codes "1") ∷ readings 138 62
+    ++ ponged (codes "1")
     ∷ devices_shard 200 ++ devices_worker 200)
 unfolding running
 two_hundred_devices = refl
@@ -168,7 +188,8 @@ small_generations = codes "set messages 1" ∷ codes "set retention 1000" ∷ []
 
 abbrev rolled : List (List ℕ)
 rolled =
-    small_generations ++ first_publish_lines ++ send_m (codes "2") ∷ codes "pump 1" ∷ codes "close 1" ∷ codes "tick 1000"
+    small_generations ++ first_publish_lines
+    ++ send_m (codes "2") ∷ codes "pump 1" ∷ codes "close 1" ∷ codes "tick 1000"
     ∷ comes_back ++ codes "send 1 40020003" ∷ codes "pump 1" ∷ []
 
 abbrev rolled_text : List (List ℕ)

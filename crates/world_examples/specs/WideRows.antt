@@ -3,7 +3,8 @@ use Rattle.std.specs.Prelude.{ℕ, ◌+◌, ◌*◌, ◌≡◌, refl, List, [], 
 use Rattle.topic_model.specs.Profile.{Profile, whole}
 use Rattle.world_model.specs.Computing.{running}
 use Rattle.world_model.specs.Running.{text_of_script}
-use Rattle.world_examples.specs.RowWords.{lines, each, send_m, k0, k1, granted_one, acknowledged, ponged, delivered_numbered}
+use Rattle.world_examples.specs.RowWords.{lines, each, send_m, k0, k1, granted_one, acknowledged, ponged}
+use Rattle.world_examples.specs.RowWords.{delivered_numbered}
 use Rattle.world_examples.specs.RowWords.{a_connects, p_connects, both_there, pump_and_ping}
 
 -- `a` connects with a Receive Maximum of 2,048 and subscribes to `a/b`, and `p` connects
@@ -35,20 +36,26 @@ wide_batches = refl
 
 -- and that is where the first pump ends
 wide_batches_by_pumps : text_of_script whole (lines (wide_there ++ publishes 300 ++ pump_and_ping ++ pump_and_ping)) []
-    ≡ lines (there_text ++ publishes_text 300 ++ deliveries 0 256 ++ ponged (codes "1") ∷ deliveries 256 44 ++ ponged (codes "1") ∷ [])
+    ≡ lines
+    (there_text ++ publishes_text 300 ++ deliveries 0 256 ++ ponged (codes "1") ∷ deliveries 256 44
+    ++ ponged (codes "1") ∷ [])
 unfolding running
 wide_batches_by_pumps = refl
 
 -- ---- the same with small numbers
 
--- windows of 4 and 8 and not 512 and 2,048, batches of 2 and 4 and not 64 and 256, and so many wide windows in place of 256
+-- windows of 4 and 8 and not 512 and 2,048, batches of 2 and 4 and not 64 and 256, and so many wide windows in place of
+-- 256
 abbrev small : ℕ → Profile
 small wide = record whole { window = 4; batch = 2; wide_window = 8; wide_batch = 4; wide_sessions = wide }
 
 -- 9 messages: two batches of 4 fill the wide window, and an acknowledgement makes room for the last
 wide_window_fills : text_of_script (small 1)
-    (lines (wide_there ++ publishes 9 ++ pump_and_ping ++ pump_and_ping ++ pump_and_ping ++ codes "send 1 40020001" ∷ pump_and_ping)) []
-    ≡ lines (there_text ++ publishes_text 9 ++ deliveries 0 4 ++ ponged (codes "1") ∷ deliveries 4 4 ++ ponged (codes "1")
+    (lines
+    (wide_there ++ publishes 9 ++ pump_and_ping ++ pump_and_ping ++ pump_and_ping
+    ++ codes "send 1 40020001" ∷ pump_and_ping)) []
+    ≡ lines
+    (there_text ++ publishes_text 9 ++ deliveries 0 4 ++ ponged (codes "1") ∷ deliveries 4 4 ++ ponged (codes "1")
     ∷ ponged (codes "1") ∷ deliveries 8 1 ++ ponged (codes "1") ∷ [])
 unfolding running
 wide_window_fills = refl
@@ -56,7 +63,8 @@ wide_window_fills = refl
 -- a client that names no Receive Maximum has a narrow window
 no_receive_maximum : text_of_script (small 1)
     (lines (both_there ++ publishes 5 ++ pump_and_ping ++ pump_and_ping ++ pump_and_ping)) []
-    ≡ lines (there_text ++ publishes_text 5 ++ deliveries 0 2 ++ ponged (codes "1") ∷ deliveries 2 2 ++ ponged (codes "1")
+    ≡ lines
+    (there_text ++ publishes_text 5 ++ deliveries 0 2 ++ ponged (codes "1") ∷ deliveries 2 2 ++ ponged (codes "1")
     ∷ ponged (codes "1") ∷ [])
 unfolding running
 no_receive_maximum = refl
@@ -64,11 +72,14 @@ no_receive_maximum = refl
 -- `b` on connection 3 asks for a wide window as `a` does, and subscribes likewise
 abbrev b_asks_too : List (List ℕ)
 b_asks_too =
-    codes "open 3" ∷ codes "send 3 101600044D5154540500003C081100000E10210800000162" ∷ codes "send 3 82090001000003612F6201" ∷ []
+    codes "open 3" ∷ codes "send 3 101600044D5154540500003C081100000E10210800000162"
+    ∷ codes "send 3 82090001000003612F6201" ∷ []
 
 -- where as many sessions as may have one have a wide window, the next one gets a narrow one
 no_more_wide_ones : text_of_script (small 1)
-    (lines (wide_there ++ b_asks_too ++ publishes 4 ++ codes "pump 1" ∷ codes "pump 3" ∷ codes "send 3 C000" ∷ codes "pump 3" ∷ [])) []
+    (lines
+    (wide_there ++ b_asks_too ++ publishes 4
+    ++ codes "pump 1" ∷ codes "pump 3" ∷ codes "send 3 C000" ∷ codes "pump 3" ∷ [])) []
     ≡ lines (there_text ++ k0 (codes "3") ∷ granted_one (codes "3") ∷ publishes_text 4 ++ deliveries 0 4
     ++ delivered_numbered (codes "3") 1 ∷ delivered_numbered (codes "3") 3 ∷ ponged (codes "3")
     ∷ delivered_numbered (codes "3") 5 ∷ delivered_numbered (codes "3") 7 ∷ [])

@@ -3,15 +3,18 @@ use Rattle.std.specs.Prelude.{ℕ, ◌≡◌, refl, List, [], ◌∷◌, ◌++�
 use Rattle.topic_model.specs.Profile.{whole}
 use Rattle.world_model.specs.Computing.{running}
 use Rattle.world_model.specs.Running.{text_of_script}
-use Rattle.world_examples.specs.RowWords.{lines, send_a, send_m, closed, k0, k1, acknowledged, delivered, resent, comes_back}
-use Rattle.world_examples.specs.RowWords.{both_there, both_there_text, published, published_text, first_publish_lines, first_publish_text}
+use Rattle.world_examples.specs.RowWords.{lines, send_a, send_m, closed, k0, k1, acknowledged, delivered, resent}
+use Rattle.world_examples.specs.RowWords.{comes_back}
+use Rattle.world_examples.specs.RowWords.{both_there, both_there_text, published, published_text, first_publish_lines}
+use Rattle.world_examples.specs.RowWords.{first_publish_text}
 
 -- ---- takeover
 
 -- three messages are given to `a` on connection 1, and then it connects on connection 3
 abbrev takes_over : List (List ℕ)
 takes_over =
-    published ++ send_m (codes "2") ∷ send_m (codes "2") ∷ codes "pump 1" ∷ codes "open 3" ∷ send_a (codes "3") ∷ codes "pump 3" ∷ []
+    published ++ send_m (codes "2") ∷ send_m (codes "2") ∷ codes "pump 1" ∷ codes "open 3" ∷ send_a (codes "3")
+    ∷ codes "pump 3" ∷ []
 
 abbrev takes_over_text : List (List ℕ)
 takes_over_text =
@@ -26,7 +29,8 @@ unfolding running
 taken_over = refl
 
 -- all three are acknowledged there
-taken_over_and_acknowledged : text_of_script whole (lines (takes_over ++ codes "ack 3" ∷ codes "pump 3" ∷ codes "look" ∷ [])) []
+taken_over_and_acknowledged : text_of_script whole
+    (lines (takes_over ++ codes "ack 3" ∷ codes "pump 3" ∷ codes "look" ∷ [])) []
     ≡ lines (takes_over_text
     ++ codes "shard 0 floor 0 next 3 awaiting 0"
     ∷ codes " generation 0 first 0 next 3 streams 1"
@@ -55,7 +59,9 @@ taken_over_by_a_new_session = refl
 
 -- an identifier in the form of the assigned ones names its worker
 assigned_to_its_worker : text_of_script whole
-    (lines (codes "set workers 2" ∷ codes "open 1" ∷ codes "send 1 101B00044D5154540500003C051100000E1000096175746F2D30312D35"
+    (lines
+    (codes "set workers 2" ∷ codes "open 1"
+    ∷ codes "send 1 101B00044D5154540500003C051100000E1000096175746F2D30312D35"
     ∷ codes "look" ∷ [])) []
     ≡ lines (k0 (codes "1")
     ∷ codes "shard 0 floor 0 next 0 awaiting 0"
@@ -98,7 +104,8 @@ resent_after_crash_of_two : text_of_script whole
 unfolding running
 resent_after_crash_of_two = refl
 
--- `p` publishes to shard 1, then `a`, whose own messages go to shard 0, publishes `hj`: the first pump serves shard 0, the next one shard 1
+-- `p` publishes to shard 1, then `a`, whose own messages go to shard 0, publishes `hj`: the first pump serves shard 0,
+-- the next one shard 1
 shards_in_turn : text_of_script whole
     (lines (codes "set shards 2" ∷ both_there ++ send_m (codes "2") ∷ codes "send 1 320A0003612F62000800686A"
     ∷ codes "pump 1" ∷ codes "send 1 C000" ∷ codes "pump 1" ∷ [])) []

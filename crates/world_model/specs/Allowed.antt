@@ -9,7 +9,9 @@ use Rattle.turn_model.specs.Step.{Ask}
 use Rattle.turn_model.specs.Worker.{Worker, setting_of, connection_in, session_in}
 use Rattle.turn_model.specs.WorkerMoves.{Asker}
 use Rattle.turn_model.specs.WorkerMoves as Workers
-use Rattle.world_model.specs.World.{World, WorldShard, Move, Begin, Store, BeginRotate, Rotate, BeginDrop, Drop, SettleShard, Show, View, BeginCommit, Commit, SettleJournal, Emit, Bind, TakeOver, Unbind, Crash, ask_with, asker_with, allows_worker}
+use Rattle.world_model.specs.World.{World, WorldShard, Move, Begin, Store, BeginRotate, Rotate, BeginDrop, Drop}
+use Rattle.world_model.specs.World.{SettleShard, Show, View, BeginCommit, Commit, SettleJournal, Emit, Bind, TakeOver}
+use Rattle.world_model.specs.World.{Unbind, Crash, ask_with, asker_with, allows_worker}
 
 module _ (profile : Profile) (config : Config) where
   -- of a shard that is there
@@ -34,18 +36,27 @@ abbrev pub world_allows : Profile → World → Move → Bool
 world_allows profile w (Begin shard worker conn packets now) =
     allows_begin profile w.config shard conn packets now (slice_get w.workers worker) (slice_get w.shards shard)
 world_allows profile w (Store shard) = allows_shard profile w.config Shards.Store (slice_get w.shards shard)
-world_allows profile w (BeginRotate shard now) = allows_shard profile w.config (Shards.BeginCut now) (slice_get w.shards shard)
+world_allows profile w (BeginRotate shard now) =
+    allows_shard profile w.config (Shards.BeginCut now) (slice_get w.shards shard)
 world_allows profile w (Rotate shard) = allows_shard profile w.config Shards.Rotate (slice_get w.shards shard)
-world_allows profile w (BeginDrop shard now) = allows_shard profile w.config (Shards.BeginDrop now) (slice_get w.shards shard)
+world_allows profile w (BeginDrop shard now) =
+    allows_shard profile w.config (Shards.BeginDrop now) (slice_get w.shards shard)
 world_allows profile w (Drop shard) = allows_shard profile w.config Shards.Drop (slice_get w.shards shard)
-world_allows profile w (SettleShard shard goes_in) = allows_shard profile w.config (Shards.Settle goes_in) (slice_get w.shards shard)
+world_allows profile w (SettleShard shard goes_in) =
+    allows_shard profile w.config (Shards.Settle goes_in) (slice_get w.shards shard)
 world_allows profile w (Show shard) = allows_shard profile w.config Shards.Show (slice_get w.shards shard)
 world_allows profile w (View worker shard) = true
-world_allows profile w (BeginCommit worker cause now) = allows_worker profile w.config (Workers.BeginCommit cause now) (slice_get w.workers worker)
+world_allows profile w (BeginCommit worker cause now) =
+    allows_worker profile w.config (Workers.BeginCommit cause now) (slice_get w.workers worker)
 world_allows profile w (Commit worker) = allows_worker profile w.config Workers.Commit (slice_get w.workers worker)
-world_allows profile w (SettleJournal worker goes_in now) = allows_worker profile w.config (Workers.Settle goes_in now) (slice_get w.workers worker)
-world_allows profile w (Emit worker emitted now) = allows_worker profile w.config (Workers.Emit emitted now) (slice_get w.workers worker)
-world_allows profile w (Bind worker conn now) = allows_worker profile w.config (Workers.Bind conn now) (slice_get w.workers worker)
-world_allows profile w (TakeOver worker conn) = allows_worker profile w.config (Workers.TakeOver conn) (slice_get w.workers worker)
-world_allows profile w (Unbind worker conn ending now) = allows_worker profile w.config (Workers.Unbind conn ending now) (slice_get w.workers worker)
+world_allows profile w (SettleJournal worker goes_in now) =
+    allows_worker profile w.config (Workers.Settle goes_in now) (slice_get w.workers worker)
+world_allows profile w (Emit worker emitted now) =
+    allows_worker profile w.config (Workers.Emit emitted now) (slice_get w.workers worker)
+world_allows profile w (Bind worker conn now) =
+    allows_worker profile w.config (Workers.Bind conn now) (slice_get w.workers worker)
+world_allows profile w (TakeOver worker conn) =
+    allows_worker profile w.config (Workers.TakeOver conn) (slice_get w.workers worker)
+world_allows profile w (Unbind worker conn ending now) =
+    allows_worker profile w.config (Workers.Unbind conn ending now) (slice_get w.workers worker)
 world_allows profile w (Crash now of_shards of_workers) = true

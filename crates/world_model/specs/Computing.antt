@@ -11,5 +11,6 @@ use Rattle.mqtt_packet.specs.Answer.{is_other_version}
 
 -- `unfolding running` opens what a run of a script needs, from its bytes to the printed ones
 unfoldable pub running : Unit {0}
-unfolding digits decode_pairs encode_with first_words schedule rounds compress hash_after digest_bytes sha256 computing front_of framed prop_at Lists.each_within Lists.in_writing_order each_within packet_in is_other_version
+unfolding digits decode_pairs encode_with first_words schedule rounds compress hash_after digest_bytes sha256 computing
+    front_of framed prop_at Lists.each_within Lists.in_writing_order each_within packet_in is_other_version
 running = tt

@@ -1,5 +1,6 @@
 -- The lines of a script.
-use Rattle.std.specs.Prelude.{ℕ, ◌+◌, ◌*◌, ◌-◌, Bool, true, false, ◌&&◌, ◌||◌, not, ◌==◌, nat_le, nat_lt, if◌then◌else◌, List, [], ◌∷◌, length, slice_index, codes, Option, Some, None, Result, Ok, Err, ◌≡◌, refl}
+use Rattle.std.specs.Prelude.{ℕ, ◌+◌, ◌*◌, ◌-◌, Bool, true, false, ◌&&◌, ◌||◌, not, ◌==◌, nat_le, nat_lt, if◌then◌else◌}
+use Rattle.std.specs.Prelude.{List, [], ◌∷◌, length, slice_index, codes, Option, Some, None, Result, Ok, Err, ◌≡◌, refl}
 use Rattle.topic_model.specs.Decimals.{number_between}
 use Rattle.std.specs.List.{list_all}
 use Rattle.std.specs.Char.{is_ascii_digit}
@@ -10,8 +11,9 @@ use Rattle.hex.specs.declared.error.FromHexError.{FromHexError}
 use Rattle.topic_model.specs.Levels.{pieces}
 use Rattle.topic_model.specs.Profile.{Config, default_config}
 
--- What a line does: nothing; it changes the configuration; it opens, sends on, answers on, pumps or closes a connection; it moves the clock;
--- a device call of a disk fails from then on, counted; all crashes, with an image of each disk; and it looks at what is there.
+-- What a line does: nothing; it changes the configuration; it opens, sends on, answers on, pumps or closes a
+-- connection; it moves the clock; a device call of a disk fails from then on, counted; all crashes, with an image of
+-- each disk; and it looks at what is there.
 pub data Line : Type 0 where
   Idle : Line
   Set : Config → Line
@@ -36,7 +38,8 @@ bytes_or_none (Err e) = None
 
 -- 1 to 1,048,576 pairs of hexadecimal digits of either case
 abbrev pub hex_of : List ℕ → Option (List ℕ)
-hex_of text = if nat_le 2 (length text) && nat_le (length text) (2 * 1048576) then bytes_or_none (decode_of text) else None
+hex_of text = if nat_le 2 (length text) && nat_le (length text) (2 * 1048576) then bytes_or_none (decode_of text)
+    else None
 
 abbrev pub is_word : List ℕ → List ℕ → Bool
 is_word word text = bytes_eq word text
@@ -56,11 +59,15 @@ if_both line (Some n) (Some x) = Some (line n x)
 abbrev pub set_to : Config → List ℕ → List ℕ → Option Line
 set_to config name n =
     if is_word name (codes "shards") then if_number (λ n. Set (record config { shards = n })) (number_between 1 8 n)
-    else if is_word name (codes "workers") then if_number (λ n. Set (record config { workers = n })) (number_between 1 16 n)
+    else if is_word name (codes "workers")
+    then if_number (λ n. Set (record config { workers = n })) (number_between 1 16 n)
     else if is_word name (codes "top") then if_number (λ n. Set (record config { top = n })) (number_between 1 1000 n)
-    else if is_word name (codes "below") then if_number (λ n. Set (record config { below = n })) (number_between 1 1000 n)
-    else if is_word name (codes "messages") then if_number (λ n. Set (record config { messages = n })) (number_between 1 32768 n)
-    else if is_word name (codes "retention") then if_number (λ n. Set (record config { retention = n })) (number_between 0 1000000000000 n)
+    else if is_word name (codes "below")
+    then if_number (λ n. Set (record config { below = n })) (number_between 1 1000 n)
+    else if is_word name (codes "messages")
+    then if_number (λ n. Set (record config { messages = n })) (number_between 1 32768 n)
+    else if is_word name (codes "retention")
+    then if_number (λ n. Set (record config { retention = n })) (number_between 0 1000000000000 n)
     else None
 
 -- so many disks: ten of each shard, and two of each worker
@@ -83,11 +90,13 @@ line_of_two word n =
 abbrev pub line_of_three : Config → Bool → List ℕ → List ℕ → List ℕ → Option Line
 line_of_three config begun word a b =
     if is_word word (codes "send") then if_both Send (connection_number a) (hex_of b)
-    else if is_word word (codes "fail") then if_both Fail (number_between 0 (disks_of config - 1) a) (number_between 1 1000000 b)
+    else if is_word word (codes "fail")
+    then if_both Fail (number_between 0 (disks_of config - 1) a) (number_between 1 1000000 b)
     else if is_word word (codes "set") && not begun then set_to config a b
     else None
 
--- the line of these words, none where it is outside the grammar; the configuration is set before the first line of another kind
+-- the line of these words, none where it is outside the grammar; the configuration is set before the first line of
+-- another kind
 abbrev pub line_of_words : Config → Bool → List (List ℕ) → Option Line
 line_of_words config begun [] = None
 line_of_words config begun (word ∷ []) = line_of_one word

@@ -1,5 +1,8 @@
--- The run of a script: each line is turns of workers, a turn alternates parts and calls of shards, and what is put out is printed.
-use Rattle.std.specs.Prelude.{ℕ, zero, suc, ◌+◌, ◌-◌, ◌*◌, ◌/◌, ◌%◌, ◌^◌, min, Bool, true, false, ◌&&◌, ◌||◌, not, ◌==◌, nat_lt, nat_le, if◌then◌else◌, List, [], ◌∷◌, ◌++◌, length, map, filter, find, take, drop, replicate, codes, slice_get, slice_set, Option, Some, None, is_some}
+-- The run of a script: each line is turns of workers, a turn alternates parts and calls of shards, and what is put out
+-- is printed.
+use Rattle.std.specs.Prelude.{ℕ, zero, suc, ◌+◌, ◌-◌, ◌*◌, ◌/◌, ◌%◌, ◌^◌, min, Bool, true, false, ◌&&◌, ◌||◌, not, ◌==◌}
+use Rattle.std.specs.Prelude.{nat_lt, nat_le, if◌then◌else◌, List, [], ◌∷◌, ◌++◌, length, map, filter, find, take, drop}
+use Rattle.std.specs.Prelude.{replicate, codes, slice_get, slice_set, Option, Some, None, is_some}
 use Rattle.std.specs.List.{list_any, flat_map}
 use Rattle.std.specs.Fmt.{decimal}
 use Rattle.topic_model.specs.Profile.{Profile, Config}
@@ -9,7 +12,9 @@ use Rattle.shard_model.specs.Storing.{Op}
 use Rattle.shard_model.specs.Choices.{Choice, Fates, Drawn, draw}
 use Rattle.shard_model.specs.ShardMoves.{Shard, ShardMove, pends_nothing}
 use Rattle.shard_model.specs.ShardMoves as Shards
-use Rattle.shard_model.specs.ShardCalls.{Appended, AppendedAt, Full, AwaitFull, AppendFault, AppendCall, DropCall, FetchCall, Fetched, FetchedAll, Gone, FetchFault, append_call, tick_call, fetch_call}
+use Rattle.shard_model.specs.ShardCalls.{Appended, AppendedAt, Full, AwaitFull, AppendFault, AppendCall, DropCall}
+use Rattle.shard_model.specs.ShardCalls.{FetchCall, Fetched, FetchedAll, Gone, FetchFault, append_call, tick_call}
+use Rattle.shard_model.specs.ShardCalls.{fetch_call}
 use Rattle.session_model.specs.Ends.{moment_of}
 use Rattle.mqtt_frame.specs.declared.refused.BadHeader.{BadHeader}
 use Rattle.mqtt_frame.specs.Framing.{Framed, framed}
@@ -24,9 +29,12 @@ use Rattle.turn_model.specs.Step.{Outcome, Kept, IsFull, AwaitsTooMany, Faulted}
 use Rattle.turn_model.specs.Worker.{Worker, Out, Sent, Closed, sessions_of}
 use Rattle.turn_model.specs.WorkerMoves.{WorkerMove}
 use Rattle.turn_model.specs.WorkerMoves as Workers
-use Rattle.turn_model.specs.Draft.{Beside, OpenConnection, Arrival, Opened, Bytes, ClosedByClient, Request, ForGroup, ForBodies, ForDrop, After, AfterPublishes, AfterRelease, AfterBodies, AfterDrop, Todo, Next, Asks, Done, JournalFault, Part, reading_at}
+use Rattle.turn_model.specs.Draft.{Beside, OpenConnection, Arrival, Opened, Bytes, ClosedByClient, Request, ForGroup}
+use Rattle.turn_model.specs.Draft.{ForBodies, ForDrop, After, AfterPublishes, AfterRelease, AfterBodies, AfterDrop}
+use Rattle.turn_model.specs.Draft.{Todo, Next, Asks, Done, JournalFault, Part, reading_at}
 use Rattle.turn_model.specs.Draft as Turn
-use Rattle.turn_model.specs.Parts.{Response, GroupIs, BodiesRead, BodiesGone, BodiesFailed, DropDone, DropFailed, start_part, resume_part}
+use Rattle.turn_model.specs.Parts.{Response, GroupIs, BodiesRead, BodiesGone, BodiesFailed, DropDone, DropFailed}
+use Rattle.turn_model.specs.Parts.{start_part, resume_part}
 use Rattle.world_model.specs.World.{World, WorldShard, Move, opening_world, at_place, shown_lists, after_moves}
 use Rattle.world_model.specs.World as Moves
 use Rattle.world_model.specs.Lines.{Line, Script, script_of}
@@ -67,7 +75,8 @@ with_armed config disk c =
 
 -- ---- a turn
 
--- under way: the world, what stands beside the worker, the chances, what was put out, what is left of the turn, and what comes of it
+-- under way: the world, what stands beside the worker, the chances, what was put out, what is left of the turn, and
+-- what comes of it
 pub record Turning : Type 0 where
   pub world : World
   pub beside : Beside
@@ -99,7 +108,7 @@ of_one_shard shard worker conn packets (Shards.Settle goes_in) = Moves.SettleSha
 of_one_shard shard worker conn packets Shards.Show = Moves.Show shard
 
 abbrev pub asking_packets : Option After → List PlainPacket
-asking_packets (Some (AfterPublishes ps)) = map (λ p. Publish p) ps
+asking_packets (Some (AfterPublishes p ps)) = Publish p ∷ map (λ q. Publish q) ps
 asking_packets (Some (AfterRelease packet)) = packet ∷ []
 asking_packets other = []
 
@@ -134,7 +143,8 @@ module _ (profile : Profile) where
   turn_resumed_with worker shard answer t None = t
   turn_resumed_with worker shard answer t (Some w) =
       part_taken worker t.outs t.chances t.world
-      (resume_part profile t.world.config w t.beside t.todo shard answer (shown_lists t.world.shards) (fates_of_journal worker t.chances))
+      (resume_part profile t.world.config w t.beside t.todo shard answer (shown_lists t.world.shards)
+      (fates_of_journal worker t.chances))
 
   abbrev pub turn_resumed : ℕ → ℕ → Response → Turning → Turning
   turn_resumed worker shard answer t = turn_resumed_with worker shard answer t (slice_get t.world.workers worker)
@@ -143,15 +153,18 @@ module _ (profile : Profile) where
   abbrev pub shard_called : ℕ → ℕ → List ShardMove → Fates → Response → Turning → Turning
   shard_called worker shard moves fates answer t =
       turn_resumed worker shard answer (record t {
-        world = after_moves profile t.world (map (of_one_shard shard worker (connection_or_zero t.todo) (asking_packets t.todo.after)) moves);
+        world = after_moves profile t.world
+            (map (of_one_shard shard worker (connection_or_zero t.todo) (asking_packets t.todo.after)) moves);
         chances = after_shard shard fates t.chances;
       })
 
   abbrev pub appended_by : ℕ → ℕ → AppendCall → Turning → Turning
-  appended_by worker shard call t = shard_called worker shard call.moves call.fates (GroupIs (outcome_of call.outcome)) t
+  appended_by worker shard call t = shard_called worker shard call.moves call.fates
+      (GroupIs (outcome_of call.outcome)) t
 
   abbrev pub dropped_by : ℕ → ℕ → DropCall → Turning → Turning
-  dropped_by worker shard call t = shard_called worker shard call.moves call.fates (if call.faulted then DropFailed else DropDone) t
+  dropped_by worker shard call t = shard_called worker shard call.moves call.fates
+      (if call.faulted then DropFailed else DropDone) t
 
   abbrev pub fetched_by : ℕ → ℕ → FetchCall → Turning → Turning
   fetched_by worker shard call t = shard_called worker shard [] call.fates (bodies_of call.outcome) t
@@ -159,9 +172,13 @@ module _ (profile : Profile) where
   abbrev pub asked_of : ℕ → Request → Turning → Option WorldShard → Turning
   asked_of worker request t None = t
   asked_of worker (ForGroup shard ops) t (Some s) =
-      appended_by worker shard (append_call profile t.world.config s.shard ops t.beside.last (fates_of_shard shard t.chances)) t
-  asked_of worker (ForBodies shard places) t (Some s) = fetched_by worker shard (fetch_call s.shard.shown places (fates_of_shard shard t.chances)) t
-  asked_of worker (ForDrop shard) t (Some s) = dropped_by worker shard (tick_call profile t.world.config s.shard t.beside.last (fates_of_shard shard t.chances)) t
+      appended_by worker shard
+      (append_call profile t.world.config s.shard ops t.beside.last (fates_of_shard shard t.chances)) t
+  asked_of worker (ForBodies shard places) t (Some s) =
+      fetched_by worker shard (fetch_call s.shard.shown places (fates_of_shard shard t.chances)) t
+  asked_of worker (ForDrop shard) t (Some s) =
+      dropped_by worker shard (tick_call profile t.world.config s.shard t.beside.last (fates_of_shard shard t.chances))
+      t
 
   abbrev pub shard_in : Request → ℕ
   shard_in (ForGroup shard ops) = shard
@@ -177,10 +194,11 @@ module _ (profile : Profile) where
   calls_made worker zero t = t
   calls_made worker (suc more) t = calls_made worker more (call_made worker t.next t)
 
-  -- How many calls a turn makes at most. A pump and a Tick ask each shard once at most. Of a piece each packet asks for a group once at most,
-  -- and each publish of a refused group once more; and a packet has two bytes or more.
+  -- How many calls a turn makes at most. A pump and a Tick ask each shard once at most. Of a piece each packet asks for
+  -- a group once at most, and each publish of a refused group once more; and a packet has two bytes or more.
   abbrev pub bytes_kept : ℕ → Beside → ℕ
-  bytes_kept conn beside = elim (reading_at conn beside.readings) as (λ r. ℕ) [ None ↦ 0 | Some r ↦ length r.framer.kept ]
+  bytes_kept conn beside = elim (reading_at conn beside.readings) as
+      (λ r. ℕ) [ None ↦ 0 | Some r ↦ length r.framer.kept ]
 
   abbrev pub most_calls : Config → Arrival → Beside → ℕ
   most_calls config (Opened conn) beside = 0
@@ -192,7 +210,9 @@ module _ (profile : Profile) where
   abbrev pub turn : ℕ → Arrival → ℕ → Beside → Chances → World → Worker → Turning
   turn number arrival now beside chances world w =
       calls_made number (most_calls world.config arrival beside)
-      (part_taken number [] chances world (start_part profile world.config w beside arrival now (shown_lists world.shards) (fates_of_journal number chances)))
+      (part_taken number [] chances world
+      (start_part profile world.config w beside arrival now (shown_lists world.shards)
+      (fates_of_journal number chances)))
 
 -- ---- the run
 
@@ -206,8 +226,8 @@ pub record Owing : Type 0 where
   pub connection : ℕ
   pub answers : List (List ℕ)
 
--- The world, and what stands beside each worker; the connections whose worker isn't known; the chances; the clock; the answers that `ack`
--- lines send; and what was printed, the latest first.
+-- The world, and what stands beside each worker; the connections whose worker isn't known; the chances; the clock; the
+-- answers that `ack` lines send; and what was printed, the latest first.
 pub record State : Type 0 where
   pub world : World
   pub besides : List Beside
@@ -233,7 +253,8 @@ opening_state config choices =
 
 abbrev pub answer_to_publish : PublishFields → List (List ℕ)
 answer_to_publish p =
-    if p.qos == 1 then written (ack Puback p.id 0 []) ∷ [] else if p.qos == 2 then written (ack Pubrec p.id 0 []) ∷ [] else []
+    if p.qos == 1 then written (ack Puback p.id 0 []) ∷ [] else if p.qos == 2 then written (ack Pubrec p.id 0 []) ∷ []
+    else []
 
 abbrev pub answer_to : PlainPacket → List (List ℕ)
 answer_to (Publish p) = answer_to_publish p
@@ -241,14 +262,16 @@ answer_to (Ack Pubrel a) = written (ack Pubcomp a.id 0 []) ∷ []
 answer_to other = []
 
 abbrev pub owing_at : ℕ → List Owing → List (List ℕ)
-owing_at conn os = elim (find (λ (o : Owing). o.connection == conn) os) as (λ o. List (List ℕ)) [ None ↦ [] | Some o ↦ o.answers ]
+owing_at conn os = elim (find (λ (o : Owing). o.connection == conn) os) as
+    (λ o. List (List ℕ)) [ None ↦ [] | Some o ↦ o.answers ]
 
 abbrev pub without_owing : ℕ → List Owing → List Owing
 without_owing conn os = filter (λ (o : Owing). not (o.connection == conn)) os
 
 abbrev pub with_owing : ℕ → List (List ℕ) → List Owing → List Owing
 with_owing conn [] os = os
-with_owing conn (a ∷ answers) os = record { connection = conn; answers = owing_at conn os ++ a ∷ answers } ∷ without_owing conn os
+with_owing conn (a ∷ answers) os =
+    record { connection = conn; answers = owing_at conn os ++ a ∷ answers } ∷ without_owing conn os
 
 abbrev pub owing_by : Out → List Owing → List Owing
 owing_by (Sent conn packet) os = with_owing conn (answer_to packet) os
@@ -269,7 +292,8 @@ pub record Crashing : Type 0 where
   pub chances : Chances
 
 abbrev pub choice_made_with : Drawn → Crashing → Crashing
-choice_made_with drawn c = record { choices = c.choices ++ drawn.goes_in ∷ []; chances = record c.chances { choices = drawn.fates.choices } }
+choice_made_with drawn c =
+    record { choices = c.choices ++ drawn.goes_in ∷ []; chances = record c.chances { choices = drawn.fates.choices } }
 
 abbrev pub choice_made : Bool → Crashing → Crashing
 choice_made true c = choice_made_with (draw (record { choices = c.chances.choices; armed = 0 })) c
@@ -285,7 +309,8 @@ choose_workers (w ∷ ws) c = choose_workers ws (choice_made (is_some w.pending)
 
 -- ---- the mount behind a crash
 
--- as it goes on: whether it has met a failure, the choices that are left, and the failures still to come of those gone by
+-- as it goes on: whether it has met a failure, the choices that are left, and the failures still to come of those gone
+-- by
 pub record Mounting : Type 0 where
   pub met : Bool
   pub choices : List Choice
@@ -310,7 +335,8 @@ with_mounting shards m = record { choices = m.choices; shards = shards; journals
 abbrev pub mounted_shards : Mounting → Chances → Chances
 mounted_shards m c = with_mounting m.left (mount_each c.journals (record m { left = [] }))
 
--- A mount may meet one failure that is still to come: it is used up, and no later call meets it. Then mounting begins anew.
+-- A mount may meet one failure that is still to come: it is used up, and no later call meets it. Then mounting begins
+-- anew.
 abbrev pub after_mount : Chances → Chances
 after_mount c = mounted_shards (mount_each c.shards (record { met = false; choices = c.choices; left = [] })) c
 
@@ -345,12 +371,14 @@ module _ (profile : Profile) where
       }
 
   abbrev pub turn_taken_by : ℕ → Arrival → State → Option Beside → Option Worker → State
-  turn_taken_by worker arrival s (Some beside) (Some w) = turn_done worker s (turn profile worker arrival s.clock beside s.chances s.world w)
+  turn_taken_by worker arrival s (Some beside) (Some w) =
+      turn_done worker s (turn profile worker arrival s.clock beside s.chances s.world w)
   turn_taken_by worker arrival s beside w = s
 
   -- one turn of a worker
   abbrev pub turn_taken : ℕ → Arrival → State → State
-  turn_taken worker arrival s = turn_taken_by worker arrival s (slice_get s.besides worker) (slice_get s.world.workers worker)
+  turn_taken worker arrival s = turn_taken_by worker arrival s (slice_get s.besides worker)
+      (slice_get s.world.workers worker)
 
   abbrev pub turns_taken : ℕ → List Arrival → State → State
   turns_taken worker [] s = s
@@ -364,7 +392,8 @@ module _ (profile : Profile) where
   abbrev pub worker_from : ℕ → ℕ → List Beside → Option ℕ
   worker_from number conn [] = None
   worker_from number conn (beside ∷ besides) =
-      elim (is_read_by conn beside) as (λ here. Option ℕ) [ true ↦ Some number | false ↦ worker_from (number + 1) conn besides ]
+      elim (is_read_by conn beside) as (λ here. Option ℕ)
+      [ true ↦ Some number | false ↦ worker_from (number + 1) conn besides ]
 
   -- the worker that has it, none where it isn't open or is in the lobby
   abbrev pub worker_reading : ℕ → State → Option ℕ
@@ -383,7 +412,8 @@ module _ (profile : Profile) where
   -- ---- the worker of a first packet
 
   abbrev pub worker_for_client : Config → ℕ → List ℕ → ℕ
-  worker_for_client config conn client = if length client == 0 then conn % config.workers else routed_worker client config.workers
+  worker_for_client config conn client =
+      if length client == 0 then conn % config.workers else routed_worker client config.workers
 
   abbrev pub worker_for_packet : Config → ℕ → Result PlainPacket ReadRefused → ℕ
   worker_for_packet config conn (Ok (Connect c)) = worker_for_client config conn c.client
@@ -396,7 +426,8 @@ module _ (profile : Profile) where
   -- that of its client; one that isn't readable as a CONNECT, or whose framing is refused, goes to worker 0
   abbrev pub worker_for_framed : Config → ℕ → Framed → Option ℕ
   worker_for_framed config conn f =
-      elim (f.packets) as (λ packets. Option ℕ) [ [] ↦ worker_if_bad f.bad | first ∷ packets ↦ Some (worker_for_packet config conn (answer first)) ]
+      elim (f.packets) as (λ packets. Option ℕ)
+      [ [] ↦ worker_if_bad f.bad | first ∷ packets ↦ Some (worker_for_packet config conn (answer first)) ]
 
   abbrev pub worker_for : Config → Lobbied → Option ℕ
   worker_for config l = worker_for_framed config l.connection (framed profile.packet (joined l.pieces))
@@ -406,7 +437,8 @@ module _ (profile : Profile) where
 
   abbrev pub lobby_left : Lobbied → Option ℕ → State → State
   lobby_left l None s = record s { lobby = l ∷ without_lobbied l.connection s.lobby }
-  lobby_left l (Some worker) s = turns_taken worker (arrivals_of l) (record s { lobby = without_lobbied l.connection s.lobby })
+  lobby_left l (Some worker) s = turns_taken worker (arrivals_of l)
+      (record s { lobby = without_lobbied l.connection s.lobby })
 
   abbrev pub lobby_sent : Lobbied → State → State
   lobby_sent l s = lobby_left l (worker_for s.world.config l) s
@@ -421,10 +453,12 @@ module _ (profile : Profile) where
   bytes_sent conn bytes s = bytes_sent_by conn bytes (lobbied_at conn s.lobby) s
 
   abbrev pub connection_closed : ℕ → State → State
-  connection_closed conn s = to_worker (worker_reading conn s) (ClosedByClient conn) (record s { lobby = without_lobbied conn s.lobby })
+  connection_closed conn s = to_worker (worker_reading conn s) (ClosedByClient conn)
+      (record s { lobby = without_lobbied conn s.lobby })
 
   abbrev pub lobby_entered : ℕ → State → State
-  lobby_entered conn s = record s { lobby = record { connection = conn; pieces = [] } ∷ s.lobby; owing = without_owing conn s.owing }
+  lobby_entered conn s =
+      record s { lobby = record { connection = conn; pieces = [] } ∷ s.lobby; owing = without_owing conn s.owing }
 
   abbrev pub acked_with : ℕ → List (List ℕ) → State → State
   acked_with conn [] s = s
@@ -458,7 +492,8 @@ module _ (profile : Profile) where
       }
 
   abbrev pub crashed_after : State → Crashing → State
-  crashed_after s c = crashed_with s c.choices (choose_workers s.world.workers (record { choices = []; chances = c.chances }))
+  crashed_after s c = crashed_with s c.choices
+      (choose_workers s.world.workers (record { choices = []; chances = c.chances }))
 
   abbrev pub after_crash : State → State
   after_crash s = crashed_after s (choose_shards s.world.shards (record { choices = []; chances = s.chances }))
@@ -471,7 +506,8 @@ module _ (profile : Profile) where
 
   abbrev pub look_text : State → List ℕ
   look_text s =
-      shards_text 0 (shown_lists s.world.shards) ++ flat_map (λ (w : Worker). worker_text w.number (sessions_of w)) s.world.workers
+      shards_text 0 (shown_lists s.world.shards)
+      ++ flat_map (λ (w : Worker). worker_text w.number (sessions_of w)) s.world.workers
 
   -- ---- a line, and all lines
 
@@ -504,7 +540,8 @@ module _ (profile : Profile) where
   -- none where it is run
   abbrev pub refusal_of_script : List ℕ → Option (List ℕ)
   refusal_of_script bytes =
-      if nat_lt script_limit (length bytes) then Some (ended_line (codes "script too long")) else refusal_under (script_of bytes).bad
+      if nat_lt script_limit (length bytes) then Some (ended_line (codes "script too long"))
+      else refusal_under (script_of bytes).bad
 
   abbrev pub text_unless : Option (List ℕ) → Script → List Choice → List ℕ
   text_unless (Some text) script choices = text

@@ -44,39 +44,50 @@ count_in stream ss = length (filter (λ (s : StreamMessage). s.stream == stream)
 
 abbrev pub stream_text : ℕ → Path → List StreamMessage → List ℕ
 stream_text stream path ss =
-    ended_line (words_and_number (codes "  stream ") stream ++ (codes " " ++ (pattern_text path ++ words_and_number (codes " count ") (count_in stream ss))))
+    ended_line
+    (words_and_number (codes "  stream ") stream
+    ++ (codes " " ++ (pattern_text path ++ words_and_number (codes " count ") (count_in stream ss))))
 
 abbrev pub streams_text : ℕ → List Path → List StreamMessage → List ℕ
 streams_text stream [] ss = []
 streams_text stream (path ∷ paths) ss = stream_text stream path ss ++ streams_text (stream + 1) paths ss
 
-abbrev pub messages_in : List StreamMessage → List StoredMessage
-messages_in ss = map (λ (s : StreamMessage). s.message) ss
+abbrev pub messages_of_stream : List StreamMessage → List StoredMessage
+messages_of_stream ss = map (λ (s : StreamMessage). s.message) ss
 
 abbrev pub generation_line : HeldGeneration → List Path → List ℕ
 generation_line g paths =
     ended_line (words_and_number (codes " generation ") g.cut.number
-    ++ (words_and_number (codes " first ") g.cut.first ++ (words_and_number (codes " next ") g.end ++ words_and_number (codes " streams ") (length paths))))
+    ++ (words_and_number (codes " first ") g.cut.first
+    ++ (words_and_number (codes " next ") g.end ++ words_and_number (codes " streams ") (length paths))))
 
 abbrev pub generation_with : HeldGeneration → List Path → List ℕ
 generation_with g paths = generation_line g paths ++ streams_text 0 paths g.messages
 
 abbrev pub generation_text : Profile → HeldGeneration → List ℕ
-generation_text profile g = generation_with g (patterns_in profile g.cut (messages_in g.messages))
+generation_text profile g = generation_with g (patterns_in profile g.cut (messages_of_stream g.messages))
 
 abbrev pub shard_line : ℕ → ShardList → List ℕ
 shard_line shard list =
     ended_line (words_and_number (codes "shard ") shard
-    ++ (words_and_number (codes " floor ") (floor_of list) ++ (words_and_number (codes " next ") (next_of list) ++ words_and_number (codes " awaiting ") (length list.awaited))))
+    ++ (words_and_number (codes " floor ") (floor_of list)
+    ++ (words_and_number (codes " next ") (next_of list)
+    ++ words_and_number (codes " awaiting ") (length list.awaited))))
 
 -- the lines of a shard: its generations with their patterns, and how many messages each stream has
 abbrev pub shard_text : Profile → ℕ → ShardList → List ℕ
-shard_text profile shard list = shard_line shard list ++ flat_map (generation_text profile) (held_generations profile list)
+shard_text profile shard list = shard_line shard list
+    ++ flat_map (generation_text profile) (held_generations profile list)
 
 abbrev pub session_text : PlainSession → List ℕ
 session_text m =
-    ended_line (codes " session " ++ (m.client ++ (words_and_number (codes " subs ") (live_count m) ++ words_and_number (codes " unfinished ") (length (unfinished m)))))
+    ended_line
+    (codes " session "
+    ++ (m.client
+    ++ (words_and_number (codes " subs ") (live_count m)
+    ++ words_and_number (codes " unfinished ") (length (unfinished m)))))
 
 -- the lines of a worker: its sessions in the order in which they began
 abbrev pub worker_text : ℕ → Sessions → List ℕ
-worker_text number sessions = ended_line (words_and_number (codes "worker ") number) ++ flat_map session_text sessions.list
+worker_text number sessions = ended_line (words_and_number (codes "worker ") number)
+    ++ flat_map session_text sessions.list

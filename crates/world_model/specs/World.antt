@@ -1,11 +1,13 @@
--- The world: all shards and all workers, and the messages that were acknowledged; and its moves. A move that isn't allowed changes nothing
--- and puts out nothing.
-use Rattle.std.specs.Prelude.{ℕ, zero, suc, ◌+◌, Bool, true, false, ◌&&◌, ◌==◌, if◌then◌else◌, List, [], ◌∷◌, ◌++◌, length, drop, map, replicate, slice_get, Option, Some, None}
+-- The world: all shards and all workers, and the messages that were acknowledged; and its moves. A move that isn't
+-- allowed changes nothing and puts out nothing.
+use Rattle.std.specs.Prelude.{ℕ, zero, suc, ◌+◌, Bool, true, false, ◌&&◌, ◌==◌, if◌then◌else◌, List, [], ◌∷◌, ◌++◌}
+use Rattle.std.specs.Prelude.{length, drop, map, replicate, slice_get, Option, Some, None}
 use Rattle.topic_model.specs.Profile.{Profile, Config}
 use Rattle.topic_model.specs.StoredMessage.{StoredMessage}
 use Rattle.shard_model.specs.ShardList.{ShardList, opening_list}
 use Rattle.shard_model.specs.Storing.{Op, store}
-use Rattle.shard_model.specs.ShardMoves.{Shard, ShardMove, PendingChange, Nothing, AGroup, pends_nothing, if_group, opening_shard, shard_step, crashed_shard}
+use Rattle.shard_model.specs.ShardMoves.{Shard, ShardMove, PendingChange, Nothing, AGroup, pends_nothing, if_group}
+use Rattle.shard_model.specs.ShardMoves.{opening_shard, shard_step, crashed_shard}
 use Rattle.shard_model.specs.ShardMoves as Shards
 use Rattle.shard_model.specs.SweepOrder.{counted_from}
 use Rattle.session_model.specs.PlainSession.{PlainSession}
@@ -15,18 +17,20 @@ use Rattle.turn_model.specs.PlainConnection.{PlainConnection}
 use Rattle.turn_model.specs.Step.{Setting, Ask}
 use Rattle.turn_model.specs.PublishStep.{are_group, publish_group, release_group, is_awaited, stored_messages}
 use Rattle.turn_model.specs.Worker.{Worker, Out, opening_worker, setting_of, connection_in, session_in}
-use Rattle.turn_model.specs.WorkerMoves.{WorkerMove, Asker, Cause, Emitted, Ending, worker_step, worker_outs, worker_acks, has_view, crashed_worker}
+use Rattle.turn_model.specs.WorkerMoves.{WorkerMove, Asker, Cause, Emitted, Ending, worker_step, worker_outs}
+use Rattle.turn_model.specs.WorkerMoves.{worker_acks, has_view, crashed_worker}
 use Rattle.turn_model.specs.WorkerMoves as Workers
 use Rattle.turn_model.specs.Allowed.{worker_allows}
 
--- A shard, and whose packets the group is of that pends; and, for laws alone, all that it ever stored, which no move reads.
+-- A shard, and whose packets the group is of that pends; and, for laws alone, all that it ever stored, which no move
+-- reads.
 pub record WorldShard : Type 0 where
   pub shard : Shard
   pub asked : Option Asker
   pub ever : List StoredMessage
 
--- The configuration, which no move changes; the shards and the workers, by number; and each message whose PUBACK, or PUBREC of success,
--- was put out, with its shard.
+-- The configuration, which no move changes; the shards and the workers, by number; and each message whose PUBACK, or
+-- PUBREC of success, was put out, with its shard.
 pub record World : Type 0 where
   pub config : Config
   pub shards : List WorldShard
@@ -38,14 +42,15 @@ opening_world config =
     record {
       config = config;
       shards = replicate config.shards (record { shard = opening_shard config; asked = None; ever = [] });
-      workers = map (λ (number : ℕ). opening_worker number (replicate config.shards (opening_list config))) (counted_from 0 config.workers);
+      workers = map (λ (number : ℕ). opening_worker number (replicate config.shards (opening_list config)))
+          (counted_from 0 config.workers);
       acked_out = [];
     }
 
 -- ---- the moves
 
--- The first number is that of the shard, or of the worker; of Begin it is the shard's, and then the worker's and the connection's, whose
--- packets ask for the group.
+-- The first number is that of the shard, or of the worker; of Begin it is the shard's, and then the worker's and the
+-- connection's, whose packets ask for the group.
 pub data Move : Type 0 where
   Begin : ℕ → ℕ → ℕ → List PlainPacket → ℕ → Move
   Store : ℕ → Move
@@ -109,7 +114,8 @@ ask_with s w packets k m = None
 abbrev pub asker_with : ℕ → ℕ → List PlainPacket → Option PlainSession → Option Asker
 asker_with worker conn packets None = None
 asker_with worker conn packets (Some m) =
-    Some (record { worker = worker; connection = conn; client = m.client; incarnation = m.incarnation; packets = packets })
+    Some (record
+    { worker = worker; connection = conn; client = m.client; incarnation = m.incarnation; packets = packets })
 
 module _ (profile : Profile) (config : Config) where
   -- ---- moves of a shard
@@ -146,7 +152,8 @@ module _ (profile : Profile) (config : Config) where
 
   -- of this shard, and no other
   abbrev pub begin_at : ℕ → ℕ → Option Ask → Option Asker → List WorldShard → List WorldShard
-  begin_at shard now (Some ask) (Some asked) ss = if ask.shard == shard then at_place shard (begin_group asked ask.ops now) ss else ss
+  begin_at shard now (Some ask) (Some asked) ss =
+      if ask.shard == shard then at_place shard (begin_group asked ask.ops now) ss else ss
   begin_at shard now ask asked ss = ss
 
   abbrev pub begin_by : ℕ → ℕ → List PlainPacket → ℕ → Option Worker → List WorldShard → List WorldShard
@@ -165,7 +172,8 @@ module _ (profile : Profile) (config : Config) where
 
   abbrev pub handed_to : ℕ → Option Asker → List (Option StoredMessage) → List Worker → List Worker
   handed_to shard None messages ws = ws
-  handed_to shard (Some a) messages ws = at_place a.worker (λ w. worker_step profile config w (Workers.Stored shard a messages)) ws
+  handed_to shard (Some a) messages ws =
+      at_place a.worker (λ w. worker_step profile config w (Workers.Stored shard a messages)) ws
 
   abbrev pub handed_if : Bool → ℕ → WorldShard → List Worker → List Worker
   handed_if true shard s ws = handed_to shard s.asked (messages_in s.shard.stored s.shard.pending) ws
@@ -224,7 +232,8 @@ module _ (profile : Profile) (config : Config) where
   abbrev pub crash_workers : List ShardList → ℕ → List Bool → List Worker → List Worker
   crash_workers lists now choices [] = []
   crash_workers lists now [] (w ∷ ws) = crashed_worker lists now false w ∷ crash_workers lists now [] ws
-  crash_workers lists now (goes_in ∷ choices) (w ∷ ws) = crashed_worker lists now goes_in w ∷ crash_workers lists now choices ws
+  crash_workers lists now (goes_in ∷ choices) (w ∷ ws) =
+      crashed_worker lists now goes_in w ∷ crash_workers lists now choices ws
 
 abbrev pub shown_lists : List WorldShard → List ShardList
 shown_lists ss = map (λ (s : WorldShard). s.shard.shown) ss
@@ -246,7 +255,8 @@ module _ (profile : Profile) where
   abbrev pub on_ending : ℕ → ℕ → WorkerMove → World → World
   on_ending worker conn move w =
       record (on_worker worker move w) {
-        shards = askers_kept profile w.config (allows_worker profile w.config move (slice_get w.workers worker)) worker conn w.shards;
+        shards = askers_kept profile w.config
+            (allows_worker profile w.config move (slice_get w.workers worker)) worker conn w.shards;
       }
 
   abbrev pub stored_at : ℕ → World → World
@@ -260,7 +270,8 @@ module _ (profile : Profile) where
   crashed_shards now choices w = record w { shards = crash_shards profile w.config choices w.shards }
 
   abbrev pub crashed_workers : ℕ → List Bool → World → World
-  crashed_workers now choices w = record w { workers = crash_workers profile w.config (shown_lists w.shards) now choices w.workers }
+  crashed_workers now choices w = record w
+      { workers = crash_workers profile w.config (shown_lists w.shards) now choices w.workers }
 
   abbrev pub world_step : World → Move → World
   world_step w (Begin shard worker conn packets now) =
@@ -272,7 +283,8 @@ module _ (profile : Profile) where
   world_step w (Drop shard) = on_shard shard Shards.Drop w
   world_step w (SettleShard shard goes_in) = on_shard shard (Shards.Settle goes_in) w
   world_step w (Show shard) = on_shard shard Shards.Show w
-  world_step w (View worker shard) = record w { workers = at_place worker (viewed_by profile w.config shard (slice_get w.shards shard)) w.workers }
+  world_step w (View worker shard) =
+      record w { workers = at_place worker (viewed_by profile w.config shard (slice_get w.shards shard)) w.workers }
   world_step w (BeginCommit worker cause now) = on_worker worker (Workers.BeginCommit cause now) w
   world_step w (Commit worker) = on_worker worker Workers.Commit w
   world_step w (SettleJournal worker goes_in now) = on_worker worker (Workers.Settle goes_in now) w

@@ -1,5 +1,7 @@
 -- A batch is kept exactly while one of its entries is unfinished.
-use Rattle.std.proofs.Common.{◌≡◌, ◌⊎◌, inl, inr, ℕ, zero, suc, ◌+◌, ◌≤◌, ◌<◌, Bool, true, false, ◌&&◌, ◌||◌, not, ◌==◌, if◌then◌else◌, nat_le, nat_lt, List, [], ◌∷◌, ◌++◌, filter, true≢false, refl, sym, ap, subst, ◌∙◌, arith}
+use Rattle.std.proofs.Common.{◌≡◌, ◌⊎◌, inl, inr, ℕ, zero, suc, ◌+◌, ◌≤◌, ◌<◌, Bool, true, false, ◌&&◌, ◌||◌, not, ◌==◌}
+use Rattle.std.proofs.Common.{if◌then◌else◌, nat_le, nat_lt, List, [], ◌∷◌, ◌++◌, filter, true≢false, refl, sym, ap}
+use Rattle.std.proofs.Common.{subst, ◌∙◌, arith}
 use Rattle.std.specs.List.{list_any, list_all}
 use Rattle.std.proofs.lemmas.Bool.{or_cases, or_left, or_right, eqb-true, and_parts}
 use Rattle.std.proofs.lemmas.List.Folds.{list_any-append}
@@ -27,9 +29,11 @@ use Rattle.session_refinement.specs.laws.ListLaws.{Each, each_left, each_right, 
 abbrev pub AreGiven : ℕ → List ℕ → Type 0
 AreGiven last numbers = Each (λ n. (0 < n) × (n ≤ last)) numbers
 
-pub given_from : (last start count : ℕ) → 0 < start → start + count ≤ last + 1 → AreGiven last (numbers_from start count)
+pub given_from : (last start count : ℕ) → 0 < start → start + count ≤ last + 1 →
+    AreGiven last (numbers_from start count)
 given_from last start zero some within = tt
-given_from last start (suc count) some within = ((some, omega arith), given_from last (start + 1) count (omega arith) (omega arith))
+given_from last start (suc count) some within =
+    ((some, omega arith), given_from last (start + 1) count (omega arith) (omega arith))
 
 -- the numbers of some entries were given by the tracks of a session
 pub record IsGiven (m : PlainSession) (es : List Entry) : Type 0 where
@@ -42,8 +46,10 @@ AllGiven m groups = Each (λ g. IsGiven m g.entries) groups
 pub given_all : (m : PlainSession) → HasNumbers m → IsGiven m m.issued
 given_all m h =
     record {
-      track1 = subst (AreGiven (issued1_of m)) (sym h.track1) (given_from (issued1_of m) 1 (issued1_of m) (omega arith) (omega arith));
-      track2 = subst (AreGiven (issued2_of m)) (sym h.track2) (given_from (issued2_of m) 1 (issued2_of m) (omega arith) (omega arith));
+      track1 = subst (AreGiven (issued1_of m)) (sym h.track1)
+          (given_from (issued1_of m) 1 (issued1_of m) (omega arith) (omega arith));
+      track2 = subst (AreGiven (issued2_of m)) (sym h.track2)
+          (given_from (issued2_of m) 1 (issued2_of m) (omega arith) (omega arith));
     }
 
 pub given_parts : (m : PlainSession) (es more : List Entry) → IsGiven m (es ++ more) → IsGiven m es × IsGiven m more
@@ -51,8 +57,16 @@ given_parts m es more h =
     let P : ℕ → ℕ → Type 0 = λ last n. (0 < n) × (n ≤ last) in
     let one = subst (AreGiven (issued1_of m)) (numbers1-append es more) h.track1 in
     let two = subst (AreGiven (issued2_of m)) (numbers2-append es more) h.track2 in (
-      record { track1 = each_left (P (issued1_of m)) (numbers1 es) (numbers1 more) one; track2 = each_left (P (issued2_of m)) (numbers2 es) (numbers2 more) two },
-      record { track1 = each_right (P (issued1_of m)) (numbers1 es) (numbers1 more) one; track2 = each_right (P (issued2_of m)) (numbers2 es) (numbers2 more) two },
+      record {
+        track1 = each_left (P (issued1_of m)) (numbers1 es) (numbers1 more) one;
+        track2 =
+            each_left (P (issued2_of m)) (numbers2 es) (numbers2 more) two;
+      },
+      record {
+        track1 = each_right (P (issued1_of m)) (numbers1 es) (numbers1 more) one;
+        track2 =
+            each_right (P (issued2_of m)) (numbers2 es) (numbers2 more) two;
+      },
     )
 
 pub all_given : (m : PlainSession) (groups : List Group) → IsGiven m (entries_of groups) → AllGiven m groups
@@ -71,47 +85,60 @@ or_again true b c = refl
 or_again false b c = refl
 
 -- some number of entries is unfinished exactly where some entry is
-pub any_unfinished : (t : PlainTracks) (m : PlainSession) → TracksStandFor t m → (es : List Entry) → AreGiven (issued1_of m) (numbers1 es) → AreGiven (issued2_of m) (numbers2 es) →
-    (list_any (is_unfinished1 t) (numbers1 es) || list_any (is_unfinished2 t) (numbers2 es)) ≡ list_any (λ (e : Entry). not (is_finished m e)) es
+pub any_unfinished : (t : PlainTracks) (m : PlainSession) → TracksStandFor t m → (es : List Entry) →
+    AreGiven (issued1_of m) (numbers1 es) → AreGiven (issued2_of m) (numbers2 es) →
+    (list_any (is_unfinished1 t) (numbers1 es) || list_any (is_unfinished2 t) (numbers2 es))
+    ≡ list_any (λ (e : Entry). not (is_finished m e)) es
 any_unfinished t m h [] one two = refl
 any_unfinished t m h (e ∷ es) one two = by e.kind one two (any_unfinished t m h es)
   where
     rest : Bool
     rest = list_any (λ (e : Entry). not (is_finished m e)) es
 
-    by : (k : Kind) → AreGiven (issued1_of m) (with_number (number1 k) (numbers1 es)) → AreGiven (issued2_of m) (with_number (number2 k) (numbers2 es)) →
+    by : (k : Kind) → AreGiven (issued1_of m) (with_number (number1 k) (numbers1 es)) →
+        AreGiven (issued2_of m) (with_number (number2 k) (numbers2 es)) →
         (AreGiven (issued1_of m) (numbers1 es) → AreGiven (issued2_of m) (numbers2 es) →
-        (list_any (is_unfinished1 t) (numbers1 es) || list_any (is_unfinished2 t) (numbers2 es)) ≡ list_any (λ (e : Entry). not (is_finished m e)) es) →
-        (list_any (is_unfinished1 t) (with_number (number1 k) (numbers1 es)) || list_any (is_unfinished2 t) (with_number (number2 k) (numbers2 es)))
+        (list_any (is_unfinished1 t) (numbers1 es) || list_any (is_unfinished2 t) (numbers2 es))
+        ≡ list_any (λ (e : Entry). not (is_finished m e)) es) →
+        (list_any (is_unfinished1 t) (with_number (number1 k) (numbers1 es))
+        || list_any (is_unfinished2 t) (with_number (number2 k) (numbers2 es)))
         ≡ (not (kind_is_finished m k) || list_any (λ (e : Entry). not (is_finished m e)) es)
     by (Track1 n) one two rest =
-        or_again (is_unfinished1 t n) (list_any (is_unfinished1 t) (numbers1 es)) (list_any (is_unfinished2 t) (numbers2 es))
+        or_again (is_unfinished1 t n) (list_any (is_unfinished1 t) (numbers1 es))
+        (list_any (is_unfinished2 t) (numbers2 es))
         ∙ ap (λ b. is_unfinished1 t n || b) (rest one.1 two)
         ∙ ap (λ b. b || list_any (λ (e : Entry). not (is_finished m e)) es) (unfinished1_agrees t m n h one.0.1)
     by (Track2 n) one two rest =
-        or_swap (is_unfinished2 t n) (list_any (is_unfinished1 t) (numbers1 es)) (list_any (is_unfinished2 t) (numbers2 es))
+        or_swap (is_unfinished2 t n) (list_any (is_unfinished1 t) (numbers1 es))
+        (list_any (is_unfinished2 t) (numbers2 es))
         ∙ ap (λ b. is_unfinished2 t n || b) (rest one two.1)
         ∙ ap (λ b. b || list_any (λ (e : Entry). not (is_finished m e)) es) (unfinished2_agrees t m n h two.0.0 two.0.1)
     by Zero one two rest = rest one two
     by Silent one two rest = rest one two
 
-pub group_agrees : (t : PlainTracks) (m n : PlainSession) (g : Group) → TracksStandFor t m → IsGroup n g → IsGiven m g.entries →
+pub group_agrees : (t : PlainTracks) (m n : PlainSession) (g : Group) → TracksStandFor t m → IsGroup n g →
+    IsGiven m g.entries →
     has_unfinished t g.batch ≡ list_any (λ (e : Entry). not (is_finished m e)) g.entries
 group_agrees t m n g h is given =
-    ap (λ l. list_any (is_unfinished1 t) l || list_any (is_unfinished2 t) (numbers_from g.batch.first2 g.batch.count2)) (sym is.track1)
+    ap (λ l. list_any (is_unfinished1 t) l || list_any (is_unfinished2 t) (numbers_from g.batch.first2 g.batch.count2))
+    (sym is.track1)
     ∙ ap (λ l. list_any (is_unfinished1 t) (numbers1 g.entries) || list_any (is_unfinished2 t) l) (sym is.track2)
     ∙ any_unfinished t m h g.entries given.track1 given.track2
 
 -- ---- the batches that name a version
 
-pub entry_version : (subscription : ℕ) (b : Batch) (e : Entry) → is_entry_from subscription b e ≡ true → e.version ≡ b.version
+pub entry_version : (subscription : ℕ) (b : Batch) (e : Entry) → is_entry_from subscription b e ≡ true →
+    e.version ≡ b.version
 entry_version subscription b e is =
-    let parts = and_parts (e.subscription == subscription) ((e.version == b.version) && ((e.shard == b.shard) && (nat_le b.from e.offset && nat_lt e.offset b.to))) is in
-    let later = and_parts (e.version == b.version) ((e.shard == b.shard) && (nat_le b.from e.offset && nat_lt e.offset b.to)) parts.1 in
+    let parts = and_parts (e.subscription == subscription)
+    ((e.version == b.version) && ((e.shard == b.shard) && (nat_le b.from e.offset && nat_lt e.offset b.to))) is in
+    let later = and_parts (e.version == b.version)
+    ((e.shard == b.shard) && (nat_le b.from e.offset && nat_lt e.offset b.to)) parts.1 in
     eqb-true e.version b.version later.0
 
 -- of a group with an unfinished entry, some unfinished entry has the batch's version
-one_named : (m : PlainSession) (subscription version : ℕ) (b : Batch) (es : List Entry) → list_all (is_entry_from subscription b) es ≡ true →
+one_named : (m : PlainSession) (subscription version : ℕ) (b : Batch) (es : List Entry) →
+    list_all (is_entry_from subscription b) es ≡ true →
     list_any (λ (e : Entry). e.version == version) (filter (λ (e : Entry). not (is_finished m e)) es)
     ≡ ((b.version == version) && list_any (λ (e : Entry). not (is_finished m e)) es)
 one_named m subscription version b [] all = none (b.version == version)
@@ -119,7 +146,8 @@ one_named m subscription version b [] all = none (b.version == version)
     none : (c : Bool) → false ≡ (c && false)
     none true = refl
     none false = refl
-one_named m subscription version b (e ∷ es) all = by (not (is_finished m e)) (one_named m subscription version b es parts.1)
+one_named m subscription version b (e ∷ es) all =
+    by (not (is_finished m e)) (one_named m subscription version b es parts.1)
   where
     parts : (is_entry_from subscription b e ≡ true) × (list_all (is_entry_from subscription b) es ≡ true)
     parts = and_parts (is_entry_from subscription b e) (list_all (is_entry_from subscription b) es) all
@@ -133,7 +161,9 @@ one_named m subscription version b (e ∷ es) all = by (not (is_finished m e)) (
 
     by : (f : Bool) → list_any (λ (e : Entry). e.version == version) (filter (λ (e : Entry). not (is_finished m e)) es)
         ≡ ((b.version == version) && list_any (λ (e : Entry). not (is_finished m e)) es) →
-        list_any (λ (e : Entry). e.version == version) (if f then e ∷ filter (λ (e : Entry). not (is_finished m e)) es else filter (λ (e : Entry). not (is_finished m e)) es)
+        list_any (λ (e : Entry). e.version == version)
+        (if f then e ∷ filter (λ (e : Entry). not (is_finished m e)) es
+        else filter (λ (e : Entry). not (is_finished m e)) es)
         ≡ ((b.version == version) && (f || list_any (λ (e : Entry). not (is_finished m e)) es))
     by true rest =
         ap (λ c. (e.version == version) || c) rest
@@ -142,20 +172,28 @@ one_named m subscription version b (e ∷ es) all = by (not (is_finished m e)) (
     by false rest = rest
 
 -- a kept batch names a version exactly where an unfinished entry has it
-pub named_agrees : (t : PlainTracks) (m n : PlainSession) (version : ℕ) → TracksStandFor t m → (groups : List Group) → AreGroups n groups → AllGiven m groups →
+pub named_agrees : (t : PlainTracks) (m n : PlainSession) (version : ℕ) → TracksStandFor t m → (groups : List Group) →
+    AreGroups n groups → AllGiven m groups →
     list_any (λ (b : Batch). b.version == version) (kept_batches t (batches_of groups))
     ≡ list_any (λ (e : Entry). e.version == version) (filter (λ (e : Entry). not (is_finished m e)) (entries_of groups))
 named_agrees t m n version h [] are given = refl
 named_agrees t m n version h (g ∷ gs) are given =
     by (has_unfinished t g.batch) (group_agrees t m n g h are.0 given.0)
-    ∙ ap (λ c. c || list_any (λ (b : Batch). b.version == version) (kept_batches t (batches_of gs))) (sym (one_named m are.0.version.subscription version g.batch g.entries are.0.entries))
-    ∙ ap (λ c. list_any (λ (e : Entry). e.version == version) (filter (λ (e : Entry). not (is_finished m e)) g.entries) || c) (named_agrees t m n version h gs are.1 given.1)
-    ∙ sym (list_any-append (λ (e : Entry). e.version == version) (filter (λ (e : Entry). not (is_finished m e)) g.entries) (filter (λ (e : Entry). not (is_finished m e)) (entries_of gs)))
-    ∙ ap (list_any (λ (e : Entry). e.version == version)) (sym (filter-append (λ (e : Entry). not (is_finished m e)) g.entries (entries_of gs)))
+    ∙ ap (λ c. c || list_any (λ (b : Batch). b.version == version) (kept_batches t (batches_of gs)))
+    (sym (one_named m are.0.version.subscription version g.batch g.entries are.0.entries))
+    ∙ ap (λ c. list_any (λ (e : Entry). e.version == version) (filter (λ (e : Entry). not (is_finished m e)) g.entries)
+    || c) (named_agrees t m n version h gs are.1 given.1)
+    ∙ sym
+    (list_any-append (λ (e : Entry). e.version == version) (filter (λ (e : Entry). not (is_finished m e)) g.entries)
+    (filter (λ (e : Entry). not (is_finished m e)) (entries_of gs)))
+    ∙ ap (list_any (λ (e : Entry). e.version == version))
+    (sym (filter-append (λ (e : Entry). not (is_finished m e)) g.entries (entries_of gs)))
   where
     by : (u : Bool) → u ≡ list_any (λ (e : Entry). not (is_finished m e)) g.entries →
-        list_any (λ (b : Batch). b.version == version) (if u then g.batch ∷ kept_batches t (batches_of gs) else kept_batches t (batches_of gs))
-        ≡ (((g.batch.version == version) && list_any (λ (e : Entry). not (is_finished m e)) g.entries) || list_any (λ (b : Batch). b.version == version) (kept_batches t (batches_of gs)))
+        list_any (λ (b : Batch). b.version == version)
+        (if u then g.batch ∷ kept_batches t (batches_of gs) else kept_batches t (batches_of gs))
+        ≡ (((g.batch.version == version) && list_any (λ (e : Entry). not (is_finished m e)) g.entries)
+        || list_any (λ (b : Batch). b.version == version) (kept_batches t (batches_of gs)))
     by true is =
         ap (λ c. c || list_any (λ (b : Batch). b.version == version) (kept_batches t (batches_of gs)))
         (yes (g.batch.version == version) ∙ ap (λ c. (g.batch.version == version) && c) is)
@@ -177,7 +215,8 @@ named_agrees t m n version h (g ∷ gs) are given =
 abbrev pub StaysFinished : PlainSession → PlainSession → Type 0
 StaysFinished m later = (e : Entry) → is_finished m e ≡ true → is_finished later e ≡ true
 
-pub still_unfinished : (m later : PlainSession) (e : Entry) → StaysFinished m later → not (is_finished later e) ≡ true → not (is_finished m e) ≡ true
+pub still_unfinished : (m later : PlainSession) (e : Entry) → StaysFinished m later → not (is_finished later e) ≡ true →
+    not (is_finished m e) ≡ true
 still_unfinished m later e stays is = by (is_finished m e) refl
   where
     by : (b : Bool) → is_finished m e ≡ b → not b ≡ true
@@ -185,24 +224,37 @@ still_unfinished m later e stays is = by (is_finished m e) refl
     by true f = absurd (true≢false (sym (sym (ap not (stays e f)) ∙ is)))
 
 any_still : (m later : PlainSession) → StaysFinished m later → (es : List Entry) →
-    list_any (λ (e : Entry). not (is_finished later e)) es ≡ true → list_any (λ (e : Entry). not (is_finished m e)) es ≡ true
+    list_any (λ (e : Entry). not (is_finished later e)) es ≡ true →
+    list_any (λ (e : Entry). not (is_finished m e)) es ≡ true
 any_still m later stays [] found = found
 any_still m later stays (e ∷ es) found =
-    by (or_cases (not (is_finished later e)) (list_any (λ (e : Entry). not (is_finished later e)) es) found) (any_still m later stays es)
+    by (or_cases (not (is_finished later e)) (list_any (λ (e : Entry). not (is_finished later e)) es) found)
+    (any_still m later stays es)
   where
     by : (not (is_finished later e) ≡ true) ⊎ (list_any (λ (e : Entry). not (is_finished later e)) es ≡ true) →
-        (list_any (λ (e : Entry). not (is_finished later e)) es ≡ true → list_any (λ (e : Entry). not (is_finished m e)) es ≡ true) →
+        (list_any (λ (e : Entry). not (is_finished later e)) es ≡ true →
+        list_any (λ (e : Entry). not (is_finished m e)) es ≡ true) →
         (not (is_finished m e) || list_any (λ (e : Entry). not (is_finished m e)) es) ≡ true
-    by (inl here) rest = or_left (not (is_finished m e)) (list_any (λ (e : Entry). not (is_finished m e)) es) (still_unfinished m later e stays here)
-    by (inr there) rest = or_right (not (is_finished m e)) (list_any (λ (e : Entry). not (is_finished m e)) es) (rest there)
+    by (inl here) rest = or_left (not (is_finished m e)) (list_any (λ (e : Entry). not (is_finished m e)) es)
+        (still_unfinished m later e stays here)
+    by (inr there) rest = or_right (not (is_finished m e)) (list_any (λ (e : Entry). not (is_finished m e)) es)
+        (rest there)
 
 -- batches that went aren't needed again
-pub batches_stay : (t u : PlainTracks) (m later n : PlainSession) → TracksStandFor t m → TracksStandFor u later → StaysFinished m later → (groups : List Group) →
-    AreGroups n groups → AllGiven m groups → AllGiven later groups → kept_batches u (kept_batches t (batches_of groups)) ≡ kept_batches u (batches_of groups)
+pub batches_stay : (t u : PlainTracks) (m later n : PlainSession) → TracksStandFor t m → TracksStandFor u later →
+    StaysFinished m later → (groups : List Group) →
+    AreGroups n groups → AllGiven m groups → AllGiven later groups →
+    kept_batches u (kept_batches t (batches_of groups)) ≡ kept_batches u (batches_of groups)
 batches_stay t u m later n h after stays groups are given given_later =
-    filter_within (has_unfinished u) (has_unfinished t) (batches_of groups) (each_mapped (λ b. has_unfinished u b ≡ true → has_unfinished t b ≡ true) (λ (g : Group). g.batch) groups (each groups are given given_later))
+    filter_within (has_unfinished u) (has_unfinished t) (batches_of groups)
+    (each_mapped (λ b. has_unfinished u b ≡ true → has_unfinished t b ≡ true) (λ (g : Group). g.batch) groups
+    (each groups are given given_later))
   where
-    each : (groups : List Group) → AreGroups n groups → AllGiven m groups → AllGiven later groups → Each (λ (g : Group). has_unfinished u g.batch ≡ true → has_unfinished t g.batch ≡ true) groups
+    each : (groups : List Group) → AreGroups n groups → AllGiven m groups → AllGiven later groups →
+        Each (λ (g : Group). has_unfinished u g.batch ≡ true → has_unfinished t g.batch ≡ true) groups
     each [] are given given_later = tt
-    each (g ∷ gs) are given given_later =
-        (λ is. group_agrees t m n g h are.0 given.0 ∙ any_still m later stays g.entries (sym (group_agrees u later n g after are.0 given_later.0) ∙ is), each gs are.1 given.1 given_later.1)
+    each (g ∷ gs) are given given_later = (
+      λ is. group_agrees t m n g h are.0 given.0
+          ∙ any_still m later stays g.entries (sym (group_agrees u later n g after are.0 given_later.0) ∙ is),
+      each gs are.1 given.1 given_later.1,
+    )

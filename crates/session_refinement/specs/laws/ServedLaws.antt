@@ -1,5 +1,7 @@
--- Which pairs of a subscription and a shard are served after a change, and that their sweeps go on to count what was issued.
-use Rattle.std.proofs.Common.{◌≡◌, ◌⊎◌, inl, inr, ℕ, zero, suc, Bool, true, false, ◌==◌, List, [], ◌∷◌, map, slice_get, Some, refl, sym, ap, subst, ◌∙◌}
+-- Which pairs of a subscription and a shard are served after a change, and that their sweeps go on to count what was
+-- issued.
+use Rattle.std.proofs.Common.{◌≡◌, ◌⊎◌, inl, inr, ℕ, zero, suc, Bool, true, false, ◌==◌, List, [], ◌∷◌, map, slice_get}
+use Rattle.std.proofs.Common.{Some, refl, sym, ap, subst, ◌∙◌}
 use Rattle.std.specs.List.{list_any}
 use Rattle.std.proofs.lemmas.Option.{none-some, same_Some}
 use Rattle.topic_model.specs.Profile.{Profile}
@@ -27,7 +29,8 @@ pub record WasServed (lists : List ShardList) (m : PlainSession) (p : Pair) (lis
   pub number : before.number ≡ p.subscription.number
   pub filter : before.filter ≡ p.subscription.filter
 
-pub counted_as_before : (profile : Profile) (lists : List ShardList) (m later : PlainSession) (p : Pair) (list : ShardList) → (was : WasServed lists m p list) → later.issued ≡ m.issued →
+pub counted_as_before : (profile : Profile) (lists : List ShardList) (m later : PlainSession) (p : Pair)
+    (list : ShardList) → (was : WasServed lists m p list) → later.issued ≡ m.issued →
     IsCounted profile m (record p { subscription = was.before }) list → IsCounted profile later p list
 counted_as_before profile lists m later p list was same h =
     record {
@@ -40,7 +43,8 @@ counted_as_before profile lists m later p list was same h =
 
 -- ---- each kind of change
 
-pub served_same : (lists : List ShardList) (m later : PlainSession) (p : Pair) (list : ShardList) → later.subscriptions ≡ m.subscriptions → IsServed lists later p list → WasServed lists m p list
+pub served_same : (lists : List ShardList) (m later : PlainSession) (p : Pair) (list : ShardList) →
+    later.subscriptions ≡ m.subscriptions → IsServed lists later p list → WasServed lists m p list
 served_same lists m later p list same h =
     record {
       before = p.subscription;
@@ -73,7 +77,8 @@ leaves_at number f h =
       live = λ s. lives s (s.number == number);
     }
   where
-    by : {A : Type 0} (of : Subscription → A) (s : Subscription) (b : Bool) → of (f s) ≡ of s → of (changed_if b f s) ≡ of s
+    by : {A : Type 0} (of : Subscription → A) (s : Subscription) (b : Bool) → of (f s) ≡ of s → of (changed_if b f s)
+        ≡ of s
     by of s true same = same
     by of s false same = refl
 
@@ -81,7 +86,8 @@ leaves_at number f h =
     lives s true is = h.live s is
     lives s false is = is
 
-pub served_changed : (lists : List ShardList) (m later : PlainSession) (f : Subscription → Subscription) (p : Pair) (list : ShardList) → Leaves f → later.subscriptions ≡ map f m.subscriptions →
+pub served_changed : (lists : List ShardList) (m later : PlainSession) (f : Subscription → Subscription) (p : Pair)
+    (list : ShardList) → Leaves f → later.subscriptions ≡ map f m.subscriptions →
     IsServed lists later p list → WasServed lists m p list
 served_changed lists m later f p list leaves same h =
     record {
@@ -89,8 +95,10 @@ served_changed lists m later f p list leaves same h =
       served = record {
         has_subscription = (place.0, was.1);
         live = leaves.live was.0 (ap (λ (s : Subscription). s.live) was.2 ∙ h.live);
-        has_start = ap (λ l. slice_get l p.shard) (sym (leaves.starts was.0) ∙ ap (λ (s : Subscription). s.starts) was.2) ∙ h.has_start;
-        has_sweep = ap (λ l. slice_get l p.shard) (sym (leaves.sweeps was.0) ∙ ap (λ (s : Subscription). s.sweeps) was.2) ∙ h.has_sweep;
+        has_start = ap (λ l. slice_get l p.shard)
+            (sym (leaves.starts was.0) ∙ ap (λ (s : Subscription). s.starts) was.2) ∙ h.has_start;
+        has_sweep = ap (λ l. slice_get l p.shard)
+            (sym (leaves.sweeps was.0) ∙ ap (λ (s : Subscription). s.sweeps) was.2) ∙ h.has_sweep;
         has_list = h.has_list;
       };
       number = sym (leaves.number was.0) ∙ ap (λ (s : Subscription). s.number) was.2;
@@ -106,8 +114,10 @@ served_changed lists m later f p list leaves same h =
 -- ---- a new subscription
 
 -- its sweeps start where the lists end
-pub subscribed_counted : (profile : Profile) (lists : List ShardList) (m : PlainSession) (s : Subscribes) (p : Pair) (list : ShardList) → IsList list → s.sweeps ≡ map starting_sweep lists →
-    ((p : Pair) (list : ShardList) → IsServed lists m p list → IsCounted profile m p list) → IsServed lists (subscribed_session s m) p list → IsCounted profile (subscribed_session s m) p list
+pub subscribed_counted : (profile : Profile) (lists : List ShardList) (m : PlainSession) (s : Subscribes) (p : Pair)
+    (list : ShardList) → IsList list → s.sweeps ≡ map starting_sweep lists →
+    ((p : Pair) (list : ShardList) → IsServed lists m p list → IsCounted profile m p list) →
+    IsServed lists (subscribed_session s m) p list → IsCounted profile (subscribed_session s m) p list
 subscribed_counted profile lists m s p list is starts counted h =
     by (place_either m.subscriptions (new_subscription s ∷ []) h.has_subscription.0 p.subscription h.has_subscription.1)
   where
@@ -115,7 +125,15 @@ subscribed_counted profile lists m s p list is starts counted h =
     old there =
         let was : WasServed lists m p list = record {
           before = p.subscription;
-          served = record { has_subscription = there; live = h.live; has_start = h.has_start; has_sweep = h.has_sweep; has_list = h.has_list };
+          served =
+              record {
+                has_subscription = there;
+                live = h.live;
+                has_start = h.has_start;
+                has_sweep =
+                    h.has_sweep;
+                has_list = h.has_list;
+              };
           number = refl;
           filter = refl;
         } in
@@ -124,14 +142,20 @@ subscribed_counted profile lists m s p list is starts counted h =
     new : new_subscription s ≡ p.subscription → IsCounted profile (subscribed_session s m) p list
     new same =
         record {
-          order = subst (λ start. is_in_order profile list start p.sweep ≡ true) start (subst (λ sweep. is_in_order profile list (next_of list) sweep ≡ true) sweep (start_in_order profile list is));
-          counts = λ w has. absurd (none_wanted p.subscription.filter list w is (subst (λ n. HasPlace (wanted p.subscription.filter n list) w) (sym start) has));
+          order = subst (λ start. is_in_order profile list start p.sweep ≡ true) start
+              (subst (λ sweep. is_in_order profile list (next_of list) sweep ≡ true) sweep
+              (start_in_order profile list is));
+          counts =
+              λ w has. absurd
+              (none_wanted p.subscription.filter list w is
+              (subst (λ n. HasPlace (wanted p.subscription.filter n list) w) (sym start) has));
         }
       where
         sweep : starting_sweep list ≡ p.sweep
         sweep =
             same_Some (starting_sweep list) p.sweep
-            (sym (place_mapped starting_sweep lists p.shard list h.has_list) ∙ ap (λ l. slice_get l p.shard) (sym starts ∙ ap (λ (t : Subscription). t.sweeps) same) ∙ h.has_sweep)
+            (sym (place_mapped starting_sweep lists p.shard list h.has_list)
+            ∙ ap (λ l. slice_get l p.shard) (sym starts ∙ ap (λ (t : Subscription). t.sweeps) same) ∙ h.has_sweep)
 
         start : next_of list ≡ p.start
         start =
@@ -144,6 +168,7 @@ subscribed_counted profile lists m s p list is starts counted h =
     one zero at = same_Some (new_subscription s) p.subscription at
     one (suc k) at = absurd (none-some p.subscription at)
 
-    by : HasPlace m.subscriptions p.subscription ⊎ HasPlace (new_subscription s ∷ []) p.subscription → IsCounted profile (subscribed_session s m) p list
+    by : HasPlace m.subscriptions p.subscription ⊎ HasPlace (new_subscription s ∷ []) p.subscription →
+        IsCounted profile (subscribed_session s m) p list
     by (inl there) = old there
     by (inr there) = new (one there.0 there.1)
