@@ -1,49 +1,11 @@
 -- How changes act on the sessions of a worker.
-use Rattle.std.specs.Prelude.{
-  ℕ,
-  zero,
-  suc,
-  ◌+◌,
-  ◌-◌,
-  Bool,
-  true,
-  false,
-  not,
-  ◌==◌,
-  if◌then◌else◌,
-  List,
-  [],
-  ◌∷◌,
-  ◌++◌,
-  map,
-  filter,
-  slice_set,
-  Some,
-  None,
-}
+use Rattle.std.specs.Prelude.{ℕ, zero, suc, ◌+◌, ◌-◌, Bool, true, false, not, ◌==◌, if◌then◌else◌, List, [], ◌∷◌, ◌++◌}
+use Rattle.std.specs.Prelude.{map, filter, slice_set, Some, None}
 use Rattle.std.specs.Str.{bytes_eq}
 use Rattle.shard_model.specs.declared.sweep.Sweep.{Sweep}
 use Rattle.session_model.specs.PlainSession.{PlainSession, Subscription, Sessions, begun_session}
-use Rattle.session_model.specs.Change.{
-  Change,
-  Effect,
-  Began,
-  Ended,
-  Bound,
-  Parted,
-  Subscribed,
-  Replaced,
-  Unsubscribed,
-  Issued,
-  Acked,
-  Received,
-  Done,
-  Passed,
-  Subscribes,
-  Replaces,
-  Issues,
-  Passes,
-}
+use Rattle.session_model.specs.Change.{Change, Effect, Began, Ended, Bound, Parted, Subscribed, Replaced, Unsubscribed}
+use Rattle.session_model.specs.Change.{Issued, Acked, Received, Done, Passed, Subscribes, Replaces, Issues, Passes}
 
 -- ---- one session
 

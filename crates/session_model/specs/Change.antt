@@ -15,8 +15,7 @@ pub record Parts : Type 0 where
   pub moment : ℕ
 
 -- a subscription begins: its number and version, its options and Subscription Identifier (0 for none), its filter, and
--- where it
--- begins in each shard
+-- where it begins in each shard
 pub record Subscribes : Type 0 where
   pub subscription : ℕ
   pub version : ℕ

@@ -1,25 +1,6 @@
 -- When sessions are over, and what a restart owes them.
-use Rattle.std.specs.Prelude.{
-  ℕ,
-  ◌+◌,
-  ◌*◌,
-  ◌-◌,
-  ◌^◌,
-  Bool,
-  false,
-  ◌&&◌,
-  not,
-  ◌==◌,
-  nat_le,
-  min,
-  if◌then◌else◌,
-  List,
-  [],
-  ◌∷◌,
-  Option,
-  Some,
-  None,
-}
+use Rattle.std.specs.Prelude.{ℕ, ◌+◌, ◌*◌, ◌-◌, ◌^◌, Bool, false, ◌&&◌, not, ◌==◌, nat_le, min, if◌then◌else◌, List, []}
+use Rattle.std.specs.Prelude.{◌∷◌, Option, Some, None}
 use Rattle.std.specs.List.{flat_map}
 use Rattle.session_model.specs.PlainSession.{PlainSession, Sessions}
 use Rattle.session_model.specs.Change.{Change, Ended, Parted, change}

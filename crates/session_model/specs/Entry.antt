@@ -5,8 +5,7 @@ use Rattle.session_model.specs.declared.entry.Kind.{Kind}
 use Rattle.session_model.specs.declared.entry.Kind.TheVariants.{Track1, Track2, Zero, Silent}
 
 -- The packet identifier of a number of track 1, and of one of track 2: the odd ones and the even ones, so the tracks
--- never meet
--- (MQTT 2.2.1).
+-- never meet (MQTT 2.2.1).
 abbrev pub id1 : ℕ → ℕ
 id1 number = 2 * ((number - 1) % 32767) + 1
 

@@ -8,23 +8,8 @@ use Rattle.session_model.specs.declared.entry.Kind.{Kind}
 use Rattle.session_model.specs.declared.entry.Kind.TheVariants.{Track1, Track2, Silent}
 use Rattle.session_model.specs.PlainSession.{PlainSession, Sessions, no_sessions, session_of, complete_of, room_of}
 use Rattle.session_model.specs.Unfinished.{unfinished, kept_versions, kept_subscriptions}
-use Rattle.session_model.specs.Change.{
-  Change,
-  Effect,
-  change,
-  Began,
-  Ended,
-  Bound,
-  Parted,
-  Subscribed,
-  Replaced,
-  Unsubscribed,
-  Issued,
-  Acked,
-  Received,
-  Done,
-  Passed,
-}
+use Rattle.session_model.specs.Change.{Change, Effect, change, Began, Ended, Bound, Parted, Subscribed, Replaced}
+use Rattle.session_model.specs.Change.{Unsubscribed, Issued, Acked, Received, Done, Passed}
 use Rattle.session_model.specs.Acting.{act_all}
 use Rattle.session_model.specs.FitsSession.{change_fits, changes_fit}
 use Rattle.session_model.specs.Ends.{is_over, restart_owes}

@@ -1,71 +1,18 @@
 -- When a change fits the sessions of a worker.
-use Rattle.std.specs.Prelude.{
-  ℕ,
-  ◌+◌,
-  ◌-◌,
-  ◌^◌,
-  Bool,
-  true,
-  false,
-  ◌&&◌,
-  ◌||◌,
-  not,
-  ◌==◌,
-  nat_le,
-  nat_lt,
-  List,
-  [],
-  ◌∷◌,
-  length,
-  filter,
-  slice_get,
-  Option,
-  Some,
-  None,
-  is_some,
-  is_none,
-}
+use Rattle.std.specs.Prelude.{ℕ, ◌+◌, ◌-◌, ◌^◌, Bool, true, false, ◌&&◌, ◌||◌, not, ◌==◌, nat_le, nat_lt, List, [], ◌∷◌}
+use Rattle.std.specs.Prelude.{length, filter, slice_get, Option, Some, None, is_some, is_none}
 use Rattle.std.specs.List.{list_all, sum_by}
 use Rattle.topic_model.specs.Profile.{Profile}
 use Rattle.topic_model.specs.Levels.{text_of_levels}
 use Rattle.topic_model.specs.Texts.{filter_refusal}
 use Rattle.session_model.specs.declared.entry.Entry.{Entry}
 use Rattle.session_model.specs.Entry.{numbers1, numbers2}
-use Rattle.session_model.specs.PlainSession.{
-  PlainSession,
-  Subscription,
-  Sessions,
-  session_of,
-  subscription_numbered,
-  next_subscription,
-  next_version,
-  issued1_of,
-  issued2_of,
-  in_use,
-  is_done,
-  left_of,
-}
+use Rattle.session_model.specs.PlainSession.{PlainSession, Subscription, Sessions, session_of, subscription_numbered}
+use Rattle.session_model.specs.PlainSession.{next_subscription, next_version, issued1_of, issued2_of, in_use, is_done}
+use Rattle.session_model.specs.PlainSession.{left_of}
 use Rattle.session_model.specs.Unfinished.{kept_subscriptions}
-use Rattle.session_model.specs.Change.{
-  Change,
-  Effect,
-  Began,
-  Ended,
-  Bound,
-  Parted,
-  Subscribed,
-  Replaced,
-  Unsubscribed,
-  Issued,
-  Acked,
-  Received,
-  Done,
-  Passed,
-  Subscribes,
-  Replaces,
-  Issues,
-  Passes,
-}
+use Rattle.session_model.specs.Change.{Change, Effect, Began, Ended, Bound, Parted, Subscribed, Replaced, Unsubscribed}
+use Rattle.session_model.specs.Change.{Issued, Acked, Received, Done, Passed, Subscribes, Replaces, Issues, Passes}
 use Rattle.session_model.specs.Acting.{act_one}
 
 -- the greatest number of eight bytes, which spells "none" where a moment stands, and of four
@@ -123,8 +70,7 @@ abbrev pub has_left : ℕ → List ℕ → Bool
 has_left issued numbers = nat_le (length numbers) (left_of issued)
 
 -- some entries, of the subscription's present version in one of its shards, with ascending offsets, and numbers that go
--- on, none of them
--- the greatest of eight bytes
+-- on, none of them the greatest of eight bytes
 abbrev pub may_be_issued : PlainSession → Issues → Bool
 may_be_issued m i =
     is_live m i.subscription

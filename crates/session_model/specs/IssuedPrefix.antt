@@ -32,8 +32,7 @@ abbrev pub IsPrefixOf : List ℕ → List ℕ → Type 0
 IsPrefixOf xs ys = (rest : List ℕ) × (xs ++ rest ≡ ys)
 
 -- For a subscription that starts at this offset in the shard: what was issued of a topic is a prefix of what is wanted
--- of it, and no
--- offset was issued that the list doesn't have yet.
+-- of it, and no offset was issued that the list doesn't have yet.
 pub record IsIssuedPrefix (m : PlainSession) (sub : Subscription) (shard start : ℕ) (list : ShardList)
     (topic : List (List ℕ)) : Type 0 where
   pub prefix : IsPrefixOf (issued_of_topic m sub.number shard list topic)

@@ -1,22 +1,6 @@
 -- A session as a list of all that it was issued since it began, and the sessions of a worker.
-use Rattle.std.specs.Prelude.{
-  ℕ,
-  zero,
-  suc,
-  ◌+◌,
-  ◌-◌,
-  ◌^◌,
-  Bool,
-  ◌==◌,
-  min,
-  if◌then◌else◌,
-  List,
-  [],
-  length,
-  find,
-  Option,
-  None,
-}
+use Rattle.std.specs.Prelude.{ℕ, zero, suc, ◌+◌, ◌-◌, ◌^◌, Bool, ◌==◌, min, if◌then◌else◌, List, [], length, find}
+use Rattle.std.specs.Prelude.{Option, None}
 use Rattle.std.specs.List.{list_any}
 use Rattle.std.specs.Str.{bytes_eq}
 use Rattle.shard_model.specs.declared.sweep.Sweep.{Sweep}
@@ -25,8 +9,7 @@ use Rattle.session_model.specs.declared.entry.Version.{Version}
 use Rattle.session_model.specs.Entry.{numbers1, numbers2}
 
 -- A subscription: whether it is live, its present version, its filter, and for each shard the offset that it starts at
--- and how far it
--- is there. An ended one stays in the list.
+-- and how far it is there. An ended one stays in the list.
 pub record Subscription : Type 0 where
   pub number : ℕ
   pub live : Bool
@@ -36,10 +19,9 @@ pub record Subscription : Type 0 where
   pub sweeps : List Sweep
 
 -- Its client, and its number among the sessions of its worker; how many entries may be unfinished; its expiry interval
--- in seconds, and
--- the moment since which it has no connection, none where it has one; all its subscriptions and versions, whose numbers
--- go up by one
--- from 1; all entries in the order of issue; the marks of the two tracks, and the numbers of track 2 that are done.
+-- in seconds, and the moment since which it has no connection, none where it has one; all its subscriptions and
+-- versions, whose numbers go up by one from 1; all entries in the order of issue; the marks of the two tracks, and the
+-- numbers of track 2 that are done.
 pub record PlainSession : Type 0 where
   pub client : List ℕ
   pub incarnation : ℕ

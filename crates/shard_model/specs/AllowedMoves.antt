@@ -2,28 +2,11 @@
 use Rattle.std.specs.Prelude.{Bool, ◌&&◌, not}
 use Rattle.topic_model.specs.Profile.{Profile, Config}
 use Rattle.shard_model.specs.Capacity.{may_drop}
-use Rattle.shard_model.specs.ShardMoves.{
-  Shard,
-  ShardMove,
-  Begin,
-  Store,
-  BeginCut,
-  Rotate,
-  BeginDrop,
-  Drop,
-  Settle,
-  Show,
-  pends_nothing,
-  may_store,
-  may_rotate,
-  if_group,
-  if_cut,
-  if_drop,
-}
+use Rattle.shard_model.specs.ShardMoves.{Shard, ShardMove, Begin, Store, BeginCut, Rotate, BeginDrop, Drop, Settle}
+use Rattle.shard_model.specs.ShardMoves.{Show, pends_nothing, may_store, may_rotate, if_group, if_cut, if_drop}
 
 -- Something is begun where nothing pends and there is place for it; what pends goes in by its own move, and is settled
--- by any; and what is
--- stored is shown where nothing pends.
+-- by any; and what is stored is shown where nothing pends.
 abbrev pub shard_allows : Profile → Config → Shard → ShardMove → Bool
 shard_allows profile config s (Begin ops now) = pends_nothing s.pending && may_store profile config s.stored ops now
 shard_allows profile config s Store = if_group s.pending

@@ -1,27 +1,6 @@
 -- What a generation has room for, when a group needs a new one, and when a shard is full.
-use Rattle.std.specs.Prelude.{
-  ℕ,
-  ◌+◌,
-  ◌-◌,
-  ◌^◌,
-  Bool,
-  true,
-  false,
-  ◌&&◌,
-  ◌||◌,
-  not,
-  nat_le,
-  nat_lt,
-  List,
-  [],
-  ◌∷◌,
-  ◌++◌,
-  length,
-  drop,
-  Option,
-  Some,
-  None,
-}
+use Rattle.std.specs.Prelude.{ℕ, ◌+◌, ◌-◌, ◌^◌, Bool, true, false, ◌&&◌, ◌||◌, not, nat_le, nat_lt, List, [], ◌∷◌, ◌++◌}
+use Rattle.std.specs.Prelude.{length, drop, Option, Some, None}
 use Rattle.std.specs.List.{sum_by}
 use Rattle.topic_model.specs.Profile.{Profile, Config}
 use Rattle.topic_model.specs.Levels.{text_of_levels}
@@ -39,8 +18,8 @@ expiry_size None = 0
 expiry_size (Some seconds) = 4
 
 -- How many bytes a message takes in a group: a tag, its publisher, the incarnation, the identifier, the QoS, the stamp
--- and the expiry,
--- the text of its topic, its properties and its payload, texts with two bytes of length in front and blobs with four.
+-- and the expiry, the text of its topic, its properties and its payload, texts with two bytes of length in front and
+-- blobs with four.
 abbrev pub store_size : StoredMessage → ℕ
 store_size m =
     1 + (2 + length m.publisher) + 8 + 2 + 1 + 8 + expiry_size m.expiry + (2 + length (text_of_levels m.topic)) +
@@ -105,8 +84,7 @@ passes_the_last needs list ops =
 -- ---- a full shard
 
 -- The operations are kept ones. They need a new generation, all that may be held are held, and the oldest may not be
--- dropped yet; or
--- they would pass the last values.
+-- dropped yet; or they would pass the last values.
 abbrev pub is_full_if : Bool → Profile → Config → ShardList → List Op → ℕ → Bool
 is_full_if needs profile config list ops now =
     (needs && (holds_all profile list && not (may_drop config list now)))

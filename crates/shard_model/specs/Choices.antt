@@ -2,8 +2,7 @@
 use Rattle.std.specs.Prelude.{ℕ, ◌-◌, Bool, true, false, ◌&&◌, nat_lt, List, [], ◌∷◌}
 
 -- A call did what it was to do, or failed; what was in doubt is found in, or out. What doesn't fit the call counts as
--- the first of its
--- own: a commit that GoesOut works, and a settle that Works goes out.
+-- the first of its own: a commit that GoesOut works, and a settle that Works goes out.
 pub data Choice : Type 0 where
   Works : Choice
   Fails : Choice
@@ -43,7 +42,6 @@ drawn_from (c ∷ cs) armed =
     }
 
 -- The next choice. Once none is left nothing fails and nothing goes in; and a call fails only where a failure was armed
--- before that
--- hasn't come yet.
+-- before that hasn't come yet.
 abbrev pub draw : Fates → Drawn
 draw f = drawn_from f.choices f.armed

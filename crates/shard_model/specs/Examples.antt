@@ -8,16 +8,8 @@ use Rattle.shard_model.specs.ShardList.{ShardList, opening_list, floor_of, messa
 use Rattle.shard_model.specs.Storing.{Op, Store, Release, Forget, store, kept_ops}
 use Rattle.shard_model.specs.LearnedPath.{Token, Plus, patterns_of, nodes_of, learned_path, varying}
 use Rattle.shard_model.specs.Streams.{topics_of}
-use Rattle.shard_model.specs.Capacity.{
-  store_size,
-  fits,
-  needs_a_cut,
-  may_drop,
-  is_full,
-  awaits_too_many,
-  rotated,
-  dropped,
-}
+use Rattle.shard_model.specs.Capacity.{store_size, fits, needs_a_cut, may_drop, is_full, awaits_too_many, rotated}
+use Rattle.shard_model.specs.Capacity.{dropped}
 use Rattle.shard_model.specs.SweepOrder.{Run, starting_sweep, next_run, sweep_after, is_issued_by, is_in_order}
 
 -- a message of a publisher, of QoS 1 or 2

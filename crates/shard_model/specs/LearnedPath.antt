@@ -1,23 +1,7 @@
 -- What a generation learns of its topics: the path of each topic from those before it, and the patterns that its topics
 -- have.
-use Rattle.std.specs.Prelude.{
-  ℕ,
-  suc,
-  ◌+◌,
-  Bool,
-  true,
-  false,
-  ◌&&◌,
-  nat_le,
-  if◌then◌else◌,
-  List,
-  [],
-  ◌∷◌,
-  ◌++◌,
-  Option,
-  Some,
-  None,
-}
+use Rattle.std.specs.Prelude.{ℕ, suc, ◌+◌, Bool, true, false, ◌&&◌, nat_le, if◌then◌else◌, List, [], ◌∷◌, ◌++◌, Option}
+use Rattle.std.specs.Prelude.{Some, None}
 use Rattle.std.specs.List.{list_any}
 use Rattle.std.specs.Str.{bytes_eq}
 

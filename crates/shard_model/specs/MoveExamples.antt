@@ -3,21 +3,8 @@ use Rattle.std.specs.Prelude.{◌≡◌, true, false, List, [], ◌∷◌, lengt
 use Rattle.topic_model.specs.Profile.{whole}
 use Rattle.shard_model.specs.ShardList.{floor_of, next_of}
 use Rattle.shard_model.specs.Storing.{Op}
-use Rattle.shard_model.specs.ShardMoves.{
-  Shard,
-  ShardMove,
-  Begin,
-  Store,
-  BeginCut,
-  Rotate,
-  BeginDrop,
-  Drop,
-  Settle,
-  Show,
-  opening_shard,
-  shard_run,
-  crashed_shard,
-}
+use Rattle.shard_model.specs.ShardMoves.{Shard, ShardMove, Begin, Store, BeginCut, Rotate, BeginDrop, Drop, Settle}
+use Rattle.shard_model.specs.ShardMoves.{Show, opening_shard, shard_run, crashed_shard}
 use Rattle.shard_model.specs.Examples.{says, one_each}
 
 abbrev one_op : List Op

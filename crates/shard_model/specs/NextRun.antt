@@ -1,22 +1,6 @@
 -- What the next run of a subscription is.
-use Rattle.std.specs.Prelude.{
-  ℕ,
-  suc,
-  ◌+◌,
-  ◌≡◌,
-  ◌≤◌,
-  ◌<◌,
-  ◌⊎◌,
-  true,
-  false,
-  ◌||◌,
-  ◌==◌,
-  List,
-  length,
-  take,
-  slice_get,
-  Some,
-}
+use Rattle.std.specs.Prelude.{ℕ, suc, ◌+◌, ◌≡◌, ◌≤◌, ◌<◌, ◌⊎◌, true, false, ◌||◌, ◌==◌, List, length, take, slice_get}
+use Rattle.std.specs.Prelude.{Some}
 use Rattle.std.specs.List.{list_any}
 use Rattle.topic_model.specs.StoredMessage.{StoredMessage}
 use Rattle.topic_model.specs.Profile.{Profile}

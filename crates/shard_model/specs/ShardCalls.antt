@@ -1,49 +1,17 @@
 -- What a shard does when it is called: an append, a drop at a Tick, and a reading of bodies. Each call is a list of
 -- moves and an outcome.
-use Rattle.std.specs.Prelude.{
-  ℕ,
-  zero,
-  suc,
-  Bool,
-  true,
-  false,
-  ◌&&◌,
-  nat_le,
-  nat_lt,
-  List,
-  [],
-  ◌∷◌,
-  ◌++◌,
-  length,
-  find,
-  if◌then◌else◌,
-  Option,
-  Some,
-  None,
-}
+use Rattle.std.specs.Prelude.{ℕ, zero, suc, Bool, true, false, ◌&&◌, nat_le, nat_lt, List, [], ◌∷◌, ◌++◌, length, find}
+use Rattle.std.specs.Prelude.{if◌then◌else◌, Option, Some, None}
 use Rattle.topic_model.specs.Profile.{Profile, Config}
 use Rattle.shard_model.specs.ShardList.{ShardList, next_of, floor_of}
 use Rattle.shard_model.specs.Storing.{Op, kept_ops}
 use Rattle.shard_model.specs.Capacity.{needs_a_cut, may_drop, holds_all, is_full, awaits_too_many}
-use Rattle.shard_model.specs.ShardMoves.{
-  Shard,
-  ShardMove,
-  Begin,
-  Store,
-  BeginCut,
-  Rotate,
-  BeginDrop,
-  Drop,
-  Settle,
-  Show,
-  pends_nothing,
-  shard_step,
-}
+use Rattle.shard_model.specs.ShardMoves.{Shard, ShardMove, Begin, Store, BeginCut, Rotate, BeginDrop, Drop, Settle}
+use Rattle.shard_model.specs.ShardMoves.{Show, pends_nothing, shard_step}
 use Rattle.shard_model.specs.Choices.{Fates, Drawn, draw}
 
 -- A group was stored: the offset of its first message, and the next one behind it. Or the shard is full, or would await
--- too many
--- identifiers, and nothing has changed. Or a device call failed.
+-- too many identifiers, and nothing has changed. Or a device call failed.
 pub data Appended : Type 0 where
   AppendedAt : ℕ → ℕ → Appended
   Full : Appended

@@ -4,8 +4,7 @@ use Rattle.topic_model.specs.StoredMessage.{StoredMessage}
 use Rattle.topic_model.specs.Profile.{Config}
 
 -- A generation: its number, the offset that it begins at, the thresholds of its learned topics, how many messages it
--- takes, and the
--- moment at which it was sealed. Only the newest isn't sealed.
+-- takes, and the moment at which it was sealed. Only the newest isn't sealed.
 pub record Cut : Type 0 where
   pub number : ℕ
   pub first : ℕ
@@ -21,8 +20,7 @@ pub record Awaited : Type 0 where
   pub id : ℕ
 
 -- The generations, oldest first, with numbers that go up by one; the messages, whose offsets are consecutive from the
--- first
--- generation's on; and what is awaited, in the order in which it became so.
+-- first generation's on; and what is awaited, in the order in which it became so.
 pub record ShardList : Type 0 where
   pub cuts : List Cut
   pub messages : List StoredMessage

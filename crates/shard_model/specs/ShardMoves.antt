@@ -23,9 +23,8 @@ abbrev pub opening_shard : Config → Shard
 opening_shard config = record { stored = opening_list config; shown = opening_list config; pending = Nothing }
 
 -- Begin and Store: a group is appended at a moment. BeginCut and Rotate: the newest generation is sealed and a new one
--- begins.
--- BeginDrop and Drop: the oldest is dropped. Settle: what pends is found to be in or not. Show: readers see what is
--- stored.
+-- begins. BeginDrop and Drop: the oldest is dropped. Settle: what pends is found to be in or not. Show: readers see
+-- what is stored.
 pub data ShardMove : Type 0 where
   Begin : List Op → ℕ → ShardMove
   Store : ShardMove
@@ -45,8 +44,7 @@ pends_nothing (ACut now) = false
 pends_nothing ADrop = false
 
 -- A group may be begun where its kept operations fit the newest generation, the shard isn't full, and not too many
--- identifiers would be
--- awaited.
+-- identifiers would be awaited.
 abbrev pub may_store_if : Bool → Profile → Config → ShardList → List Op → ℕ → Bool
 may_store_if needs profile config list kept now =
     not needs && (not (is_full_if needs profile config list kept now) && not (awaits_too_many profile list kept now))
@@ -58,8 +56,7 @@ abbrev pub may_store : Profile → Config → ShardList → List Op → ℕ → 
 may_store profile config list ops now = may_store_kept profile config list (kept_ops list ops) now
 
 -- A new generation may begin where one more may be held, the newest has a message, since each group fits an empty one,
--- and its number
--- isn't the last.
+-- and its number isn't the last.
 abbrev pub may_rotate : Profile → ShardList → Bool
 may_rotate profile list =
     not (holds_all profile list)

@@ -1,30 +1,7 @@
 -- The order in which a subscription goes through the messages of a shard, generation by generation and in each stream
--- by stream; what
--- a sweep counts as issued; and the next run of messages.
-use Rattle.std.specs.Prelude.{
-  ℕ,
-  zero,
-  suc,
-  ◌+◌,
-  ◌-◌,
-  Bool,
-  ◌&&◌,
-  ◌||◌,
-  ◌==◌,
-  nat_lt,
-  nat_le,
-  if◌then◌else◌,
-  List,
-  [],
-  ◌∷◌,
-  ◌++◌,
-  take,
-  filter,
-  map,
-  Option,
-  Some,
-  None,
-}
+-- by stream; what a sweep counts as issued; and the next run of messages.
+use Rattle.std.specs.Prelude.{ℕ, zero, suc, ◌+◌, ◌-◌, Bool, ◌&&◌, ◌||◌, ◌==◌, nat_lt, nat_le, if◌then◌else◌, List, []}
+use Rattle.std.specs.Prelude.{◌∷◌, ◌++◌, take, filter, map, Option, Some, None}
 use Rattle.std.specs.List.{list_any}
 use Rattle.topic_model.specs.Profile.{Profile}
 use Rattle.topic_model.specs.StoredMessage.{StoredMessage}
@@ -59,8 +36,7 @@ held_sweep list sweep = if nat_lt sweep.generation (oldest_of list.cuts).number 
 -- ---- what a sweep counts as issued
 
 -- of a message in the sweep's generation: below the base; or below the target in an earlier stream, or in the present
--- one below the
--- position
+-- one below the position
 abbrev pub is_behind : Sweep → StreamMessage → Bool
 is_behind sweep s =
     nat_lt s.message.offset sweep.base
@@ -175,8 +151,7 @@ end_in list [] number = floor_of list
 end_in list (cut ∷ cuts) number = if cut.number == number then end_before list cuts else end_in list cuts number
 
 -- Its generation isn't later than the newest, and the subscription's start, its base, its position, its target and the
--- generation's
--- end don't fall.
+-- generation's end don't fall.
 abbrev pub is_in_order : Profile → ShardList → ℕ → Sweep → Bool
 is_in_order profile list start sweep =
     nat_le sweep.generation (newest list).number

@@ -1,26 +1,6 @@
 -- Numbers that are written in decimal digits.
-use Rattle.std.specs.Prelude.{
-  ℕ,
-  Bool,
-  true,
-  false,
-  ◌&&◌,
-  ◌||◌,
-  not,
-  ◌==◌,
-  nat_le,
-  nat_lt,
-  if◌then◌else◌,
-  List,
-  length,
-  slice_index,
-  codes,
-  Option,
-  Some,
-  None,
-  ◌≡◌,
-  refl,
-}
+use Rattle.std.specs.Prelude.{ℕ, Bool, true, false, ◌&&◌, ◌||◌, not, ◌==◌, nat_le, nat_lt, if◌then◌else◌, List, length}
+use Rattle.std.specs.Prelude.{slice_index, codes, Option, Some, None, ◌≡◌, refl}
 use Rattle.std.specs.List.{list_all}
 use Rattle.std.specs.Char.{is_ascii_digit}
 use Rattle.std.specs.Str.Parse.{digits_value}

@@ -1,17 +1,7 @@
 -- Whether the numbers of a configuration are within their limits, and those of a profile suit one another.
 use Rattle.std.specs.Prelude.{◌≡◌, ℕ, ◌+◌, ◌*◌, Bool, true, false, ◌&&◌, nat_le, nat_lt, refl}
-use Rattle.topic_model.specs.Profile.{
-  Profile,
-  whole,
-  singly,
-  one_generation,
-  without_learning,
-  without_expiry,
-  without_wide_windows,
-  first_stage,
-  Config,
-  default_config,
-}
+use Rattle.topic_model.specs.Profile.{Profile, whole, singly, one_generation, without_learning, without_expiry}
+use Rattle.topic_model.specs.Profile.{without_wide_windows, first_stage, Config, default_config}
 
 abbrev pub lies_between : ℕ → ℕ → ℕ → Bool
 lies_between least most number = nat_le least number && nat_le number most

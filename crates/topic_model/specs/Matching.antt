@@ -14,8 +14,7 @@ is_last [] = true
 is_last (level ∷ levels) = false
 
 -- A last `#` matches every rest, the empty one included (MQTT 4.7.1.2); `+` matches any one level (MQTT 4.7.1.3);
--- another
--- level its equal (MQTT 4.7.3).
+-- another level its equal (MQTT 4.7.3).
 abbrev pub levels_match : List (List ℕ) → List (List ℕ) → Bool
 levels_match [] [] = true
 levels_match [] (t ∷ ts) = false

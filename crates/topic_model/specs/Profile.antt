@@ -1,6 +1,5 @@
 -- The numbers of the broker's limits, and what of it is built. Definitions take a profile, so that a stage on the way
--- has one of
--- its own, and a row at a limit computes with a small number.
+-- has one of its own, and a row at a limit computes with a small number.
 use Rattle.std.specs.Prelude.{ℕ, Bool, true, false}
 
 pub record Profile : Type 0 where
@@ -40,8 +39,7 @@ pub record Profile : Type 0 where
   -- the most changes of a record
   pub changes : ℕ
   -- whether topics are learned, publishes of one piece are joined in groups and acknowledgements in records, Forgets go
-  -- with
-  -- groups, bodies of sealed generations are cold, messages expire, and windows may be wide
+  -- with groups, bodies of sealed generations are cold, messages expire, and windows may be wide
   pub learns : Bool
   pub joins : Bool
   pub forgets_too : Bool
@@ -84,8 +82,7 @@ whole =
     }
 
 -- what a script may set: how many shards and workers there are, the thresholds of what is learned at the first level
--- and below it,
--- the most messages of a generation, and how long a sealed generation is kept at least, in milliseconds
+-- and below it, the most messages of a generation, and how long a sealed generation is kept at least, in milliseconds
 pub record Config : Type 0 where
   pub shards : ℕ
   pub workers : ℕ

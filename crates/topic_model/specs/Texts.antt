@@ -1,24 +1,6 @@
 -- Which texts are topic names and topic filters, and why others aren't (MQTT 4.7).
-use Rattle.std.specs.Prelude.{
-  ℕ,
-  Bool,
-  true,
-  false,
-  ◌&&◌,
-  ◌||◌,
-  not,
-  ◌==◌,
-  nat_lt,
-  if◌then◌else◌,
-  List,
-  [],
-  ◌∷◌,
-  length,
-  codes,
-  Option,
-  Some,
-  None,
-}
+use Rattle.std.specs.Prelude.{ℕ, Bool, true, false, ◌&&◌, ◌||◌, not, ◌==◌, nat_lt, if◌then◌else◌, List, [], ◌∷◌, length}
+use Rattle.std.specs.Prelude.{codes, Option, Some, None}
 use Rattle.std.specs.List.{list_any}
 use Rattle.topic_model.specs.declared.refused.TopicRefused.{TopicRefused}
 use Rattle.topic_model.specs.declared.refused.TopicRefused.TheVariants as Topic

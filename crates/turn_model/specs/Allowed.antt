@@ -4,8 +4,10 @@ use Rattle.topic_model.specs.Profile.{Profile, Config}
 use Rattle.turn_model.specs.PlainConnection.{PlainConnection, connection_of}
 use Rattle.turn_model.specs.Worker.{Worker, Item, Answer, Accepts, PendingRecord, setting_of, connection_in, session_in}
 use Rattle.turn_model.specs.WorkerMoves.{WorkerMove, View, BeginCommit, Commit, Settle, Stored, Emit, OfItem, OfPacket}
-use Rattle.turn_model.specs.WorkerMoves.{OfResend, Bind, TakeOver, Unbind, record_of, has_asked, item_at, answered_step}
-use Rattle.turn_model.specs.WorkerMoves.{resent_for, accepts_on, session_at, may_settle, has_connect, may_take_over}
+use Rattle.turn_model.specs.WorkerMoves.{OfResend, Bind, TakeOver, Unbind, has_asked, item_at, answered_step}
+use Rattle.turn_model.specs.Records.{record_of}
+use Rattle.turn_model.specs.WorkerMoves.{resent_for, has_connect, may_take_over}
+use Rattle.turn_model.specs.Records.{accepts_on, session_at, may_settle}
 
 -- a client that isn't bound, whose session is there
 abbrev pub may_bind_answer : Worker → Answer → Bool

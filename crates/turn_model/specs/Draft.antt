@@ -14,8 +14,10 @@ use Rattle.turn_model.specs.Step.{Setting, reply, is_nil}
 use Rattle.turn_model.specs.ConnectStep.{refusing}
 use Rattle.turn_model.specs.Worker.{Worker, Item, Answer, Answers, Accepts, Delivers, PendingRecord, Out, Sent, Closed}
 use Rattle.turn_model.specs.Worker.{setting_of, connection_in, is_short, are_sendable}
-use Rattle.turn_model.specs.WorkerMoves.{WorkerMove, View, BeginCommit, Commit, Emit, OfItem, Unbind, Cause, OfPackets}
-use Rattle.turn_model.specs.WorkerMoves.{OfConnect, OfPump, OfTick, OfOwed, Ending, with_reason, silently, Stepped}
+use Rattle.turn_model.specs.WorkerMoves.{WorkerMove, View, BeginCommit, Commit, Emit, OfItem, Unbind}
+use Rattle.turn_model.specs.Records.{Cause, OfPackets}
+use Rattle.turn_model.specs.WorkerMoves.{Ending, with_reason, silently}
+use Rattle.turn_model.specs.Records.{OfConnect, OfPump, OfTick, OfOwed, Stepped}
 use Rattle.turn_model.specs.WorkerMoves.{worker_step, worker_outs, item_at}
 use Rattle.turn_model.specs.Reasons as Reason
 

@@ -11,6 +11,7 @@ pub mod PublishStep
 pub mod ConnectStep
 pub mod PacketStep
 pub mod Worker
+pub mod Records
 pub mod WorkerMoves
 pub mod Draft
 pub mod Pieces

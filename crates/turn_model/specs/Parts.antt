@@ -20,7 +20,8 @@ use Rattle.turn_model.specs.Resend.{issued_packets}
 use Rattle.turn_model.specs.Step.{Outcome, Kept, IsFull, AwaitsTooMany, Faulted, Close, Step, is_nil}
 use Rattle.turn_model.specs.PacketStep.{tick_step}
 use Rattle.turn_model.specs.Worker.{Worker, PendingRecord, Closed, connection_in, session_in, sessions_of}
-use Rattle.turn_model.specs.WorkerMoves.{Emit, OfResend, OfPump, OfTick, Settle, Ending, by_client, silently}
+use Rattle.turn_model.specs.WorkerMoves.{Emit, OfResend, Settle, Ending, by_client, silently}
+use Rattle.turn_model.specs.Records.{OfPump, OfTick}
 use Rattle.turn_model.specs.WorkerMoves.{with_reason}
 use Rattle.turn_model.specs.Draft.{Draft, Part, Beside, Todo, Waiting, Failed, Token, Arrival, Opened, Bytes}
 use Rattle.turn_model.specs.Draft.{ClosedByClient, Pump, Tick, ForBodies, ForDrop, After, AfterPublishes, AfterRelease}

@@ -20,8 +20,10 @@ use Rattle.turn_model.specs.ConnectStep.{connect_refusal, connect_step}
 use Rattle.turn_model.specs.PacketStep.{packet_step, interval_of}
 use Rattle.turn_model.specs.Worker.{connection_in, session_in, are_sendable}
 use Rattle.turn_model.specs.laws.CarriedLaws.{stepped_on}
-use Rattle.turn_model.specs.WorkerMoves.{Emit, OfPacket, OfPackets, OfConnect, Bind, TakeOver, Ending, with_reason}
-use Rattle.turn_model.specs.WorkerMoves.{silently, Stepped, not_stepped}
+use Rattle.turn_model.specs.WorkerMoves.{Emit, OfPacket, Bind, TakeOver, Ending, with_reason}
+use Rattle.turn_model.specs.Records.{OfPackets, OfConnect}
+use Rattle.turn_model.specs.WorkerMoves.{silently}
+use Rattle.turn_model.specs.Records.{Stepped, not_stepped}
 use Rattle.turn_model.specs.Draft.{Draft, Status, Going, Waiting, Ended, Failed, Token, Whole, BadFront, EndOfPiece}
 use Rattle.turn_model.specs.Draft.{OpenConnection, ForGroup, After, AfterPublishes, AfterRelease, is_going, with_framer}
 use Rattle.turn_model.specs.Draft.{push, setting_in, not_open, own_bound_closed, own_unbound_closed, connect_refused}

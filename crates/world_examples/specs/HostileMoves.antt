@@ -13,7 +13,8 @@ use Rattle.mqtt_packet.specs.Packet.{PlainPacket, Publish, Subscribe, Disconnect
 use Rattle.turn_model.specs.PlainConnection.{PlainConnection}
 use Rattle.turn_model.specs.Step.{IsFull}
 use Rattle.turn_model.specs.Worker.{Worker, Sent, Closed, opening_worker}
-use Rattle.turn_model.specs.WorkerMoves.{OfPackets, OfConnect, OfPump, OfItem, OfPacket, OfResend, by_client}
+use Rattle.turn_model.specs.WorkerMoves.{OfItem, OfPacket, OfResend, by_client}
+use Rattle.turn_model.specs.Records.{OfPackets, OfConnect, OfPump}
 use Rattle.turn_model.specs.WorkerMoves.{with_reason}
 use Rattle.turn_model.specs.WorkerMoves as Workers
 use Rattle.turn_model.specs.Draft.{Beside, Part, Pump, Tick, Done, no_report}

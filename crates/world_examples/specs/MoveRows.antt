@@ -12,7 +12,8 @@ use Rattle.mqtt_packet.specs.Packet.{PlainPacket, Connect, Connack, Publish, Sub
 use Rattle.mqtt_packet.specs.Packet.{ack}
 use Rattle.turn_model.specs.PlainConnection.{PlainConnection}
 use Rattle.turn_model.specs.Worker.{Worker, Out, Sent, Closed}
-use Rattle.turn_model.specs.WorkerMoves.{Cause, OfPackets, OfConnect, OfPump, OfTick, OfOwed, OfItem, OfPacket}
+use Rattle.turn_model.specs.WorkerMoves.{OfItem, OfPacket}
+use Rattle.turn_model.specs.Records.{Cause, OfPackets, OfConnect, OfPump, OfTick, OfOwed}
 use Rattle.turn_model.specs.WorkerMoves.{OfResend, by_client}
 use Rattle.world_model.specs.World.{World, Move, Begin, Store, Show, View, BeginCommit, Commit, SettleJournal, Emit}
 use Rattle.world_model.specs.World.{Bind, TakeOver, Unbind, world_step, world_outs}

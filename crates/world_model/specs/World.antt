@@ -17,7 +17,8 @@ use Rattle.turn_model.specs.PlainConnection.{PlainConnection}
 use Rattle.turn_model.specs.Step.{Setting, Ask}
 use Rattle.turn_model.specs.PublishStep.{are_group, publish_group, release_group, is_awaited, stored_messages}
 use Rattle.turn_model.specs.Worker.{Worker, Out, opening_worker, setting_of, connection_in, session_in}
-use Rattle.turn_model.specs.WorkerMoves.{WorkerMove, Asker, Cause, Emitted, Ending, worker_step, worker_outs}
+use Rattle.turn_model.specs.WorkerMoves.{WorkerMove, Asker, Emitted, Ending, worker_step, worker_outs}
+use Rattle.turn_model.specs.Records.{Cause}
 use Rattle.turn_model.specs.WorkerMoves.{worker_acks, has_view, crashed_worker}
 use Rattle.turn_model.specs.WorkerMoves as Workers
 use Rattle.turn_model.specs.Allowed.{worker_allows}

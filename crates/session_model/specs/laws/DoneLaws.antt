@@ -1,42 +1,9 @@
 -- The greatest number up to which all are done.
-use Rattle.std.proofs.Common.{
-  ◌≡◌,
-  ◌⊎◌,
-  inl,
-  inr,
-  ℕ,
-  zero,
-  suc,
-  ◌+◌,
-  ◌≤◌,
-  ◌<◌,
-  Bool,
-  true,
-  false,
-  if◌then◌else◌,
-  ◌==◌,
-  List,
-  [],
-  ◌∷◌,
-  length,
-  true≢false,
-  refl,
-  sym,
-  ap,
-  ◌∙◌,
-  arith,
-}
+use Rattle.std.proofs.Common.{◌≡◌, ◌⊎◌, inl, inr, ℕ, zero, suc, ◌+◌, ◌≤◌, ◌<◌, Bool, true, false, if◌then◌else◌, ◌==◌}
+use Rattle.std.proofs.Common.{List, [], ◌∷◌, length, true≢false, refl, sym, ap, ◌∙◌, arith}
 use Rattle.std.specs.List.{list_any}
-use Rattle.std.proofs.lemmas.Bool.{
-  cases_eq,
-  cases_Bool,
-  cases_lt,
-  eqb-true,
-  or_cases,
-  or_left,
-  or_right,
-  false_from_ne_true,
-}
+use Rattle.std.proofs.lemmas.Bool.{cases_eq, cases_Bool, cases_lt, eqb-true, or_cases, or_left, or_right}
+use Rattle.std.proofs.lemmas.Bool.{false_from_ne_true}
 use Rattle.session_model.specs.PlainSession.{PlainSession, is_done, done_from, complete_of}
 
 -- the number is one of these

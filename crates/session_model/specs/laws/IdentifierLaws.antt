@@ -1,27 +1,6 @@
 -- Unfinished entries have different packet identifiers (MQTT 2.2.1).
-use Rattle.std.proofs.Common.{
-  ◌≡◌,
-  ◌⊎◌,
-  inl,
-  inr,
-  ℕ,
-  ◌+◌,
-  ◌≤◌,
-  ◌<◌,
-  true,
-  false,
-  not,
-  nat_le,
-  slice_get,
-  Some,
-  true≢false,
-  refl,
-  sym,
-  ap,
-  subst,
-  ◌∙◌,
-  arith,
-}
+use Rattle.std.proofs.Common.{◌≡◌, ◌⊎◌, inl, inr, ℕ, ◌+◌, ◌≤◌, ◌<◌, true, false, not, nat_le, slice_get, Some}
+use Rattle.std.proofs.Common.{true≢false, refl, sym, ap, subst, ◌∙◌, arith}
 use Rattle.std.proofs.lemmas.Bool.{cases_lt, leb-false, not-true}
 use Rattle.std.proofs.lemmas.Option.{none-some, same_Some}
 use Rattle.session_model.specs.declared.entry.Entry.{Entry}
@@ -32,17 +11,8 @@ use Rattle.session_model.specs.PlainSession.{PlainSession, issued1_of, issued2_o
 use Rattle.session_model.specs.Unfinished.{kind_is_finished, is_finished, unfinished}
 use Rattle.session_model.specs.laws.DoneLaws.{complete_is_done}
 use Rattle.session_model.specs.Orders.{HasNumbers}
-use Rattle.session_model.specs.laws.TrackLaws.{
-  GoUp,
-  numbers_by,
-  by_number1,
-  by_number2,
-  from_goes_up,
-  some_go_up,
-  number_between,
-  number_place,
-  kept_passes,
-}
+use Rattle.session_model.specs.laws.TrackLaws.{GoUp, numbers_by, by_number1, by_number2, from_goes_up, some_go_up}
+use Rattle.session_model.specs.laws.TrackLaws.{number_between, number_place, kept_passes}
 
 -- ---- identifiers of near numbers
 

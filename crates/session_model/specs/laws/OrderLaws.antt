@@ -1,40 +1,7 @@
 -- Each change that fits keeps the numbers of a session in order.
-use Rattle.std.proofs.Common.{
-  ◌≡◌,
-  ◌⊎◌,
-  inl,
-  inr,
-  ℕ,
-  zero,
-  suc,
-  ◌+◌,
-  ◌-◌,
-  ◌≤◌,
-  ◌<◌,
-  true,
-  false,
-  ◌&&◌,
-  not,
-  if◌then◌else◌,
-  ◌==◌,
-  nat_lt,
-  nat_le,
-  List,
-  [],
-  ◌∷◌,
-  ◌++◌,
-  length,
-  Option,
-  Some,
-  None,
-  true≢false,
-  refl,
-  sym,
-  ap,
-  subst,
-  ◌∙◌,
-  arith,
-}
+use Rattle.std.proofs.Common.{◌≡◌, ◌⊎◌, inl, inr, ℕ, zero, suc, ◌+◌, ◌-◌, ◌≤◌, ◌<◌, true, false, ◌&&◌, not}
+use Rattle.std.proofs.Common.{if◌then◌else◌, ◌==◌, nat_lt, nat_le, List, [], ◌∷◌, ◌++◌, length, Option, Some, None}
+use Rattle.std.proofs.Common.{true≢false, refl, sym, ap, subst, ◌∙◌, arith}
 use Rattle.std.specs.List.{list_all}
 use Rattle.std.proofs.lemmas.Bool.{and_parts, or_cases, eqb-true, ltb-true, leb-true}
 use Rattle.std.proofs.lemmas.List.{length-append}
@@ -42,46 +9,14 @@ use Rattle.std.proofs.lemmas.List.Folds.{list_any-append}
 use Rattle.session_model.specs.declared.entry.Entry.{Entry}
 use Rattle.session_model.specs.declared.entry.Version.{Version}
 use Rattle.session_model.specs.Entry.{with_number, number1, number2, numbers1, numbers2}
-use Rattle.session_model.specs.PlainSession.{
-  PlainSession,
-  Subscription,
-  begun_session,
-  issued1_of,
-  issued2_of,
-  is_done,
-  subscription_numbered,
-}
-use Rattle.session_model.specs.Change.{
-  Effect,
-  Began,
-  Ended,
-  Bound,
-  Parted,
-  Subscribed,
-  Replaced,
-  Unsubscribed,
-  Issued,
-  Acked,
-  Received,
-  Done,
-  Passed,
-  Issues,
-  Passes,
-}
+use Rattle.session_model.specs.PlainSession.{PlainSession, Subscription, begun_session, issued1_of, issued2_of, is_done}
+use Rattle.session_model.specs.PlainSession.{subscription_numbered}
+use Rattle.session_model.specs.Change.{Effect, Began, Ended, Bound, Parted, Subscribed, Replaced, Unsubscribed, Issued}
+use Rattle.session_model.specs.Change.{Acked, Received, Done, Passed, Issues, Passes}
 use Rattle.session_model.specs.laws.TrackLaws.{numbers1-append, numbers2-append}
 use Rattle.session_model.specs.Acting.{numbers_from, changed_session, issued_session, passed_session}
-use Rattle.session_model.specs.FitsSession.{
-  go_on,
-  ascend,
-  has_left,
-  is_live,
-  has_sweep,
-  is_entry_of,
-  may_be_issued,
-  is_between,
-  may_be_passed,
-  suits,
-}
+use Rattle.session_model.specs.FitsSession.{go_on, ascend, has_left, is_live, has_sweep, is_entry_of, may_be_issued}
+use Rattle.session_model.specs.FitsSession.{is_between, may_be_passed, suits}
 use Rattle.session_model.specs.Orders.{HasNumbers}
 use Rattle.session_model.specs.laws.DoneLaws.{has}
 

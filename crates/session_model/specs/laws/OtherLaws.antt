@@ -1,47 +1,10 @@
 -- A change of one client leaves the session of another as it was.
-use Rattle.std.proofs.Common.{
-  ◌≡◌,
-  ℕ,
-  ◌+◌,
-  ◌-◌,
-  Bool,
-  true,
-  false,
-  not,
-  if◌then◌else◌,
-  ◌==◌,
-  List,
-  [],
-  ◌∷◌,
-  ◌++◌,
-  Option,
-  Some,
-  None,
-  find,
-  bytes_eq,
-  refl,
-  sym,
-  ap,
-  ◌∙◌,
-}
+use Rattle.std.proofs.Common.{◌≡◌, ℕ, ◌+◌, ◌-◌, Bool, true, false, not, if◌then◌else◌, ◌==◌, List, [], ◌∷◌, ◌++◌}
+use Rattle.std.proofs.Common.{Option, Some, None, find, bytes_eq, refl, sym, ap, ◌∙◌}
 use Rattle.std.proofs.lemmas.Slice.Eq.{bytes_eq-Decides}
 use Rattle.session_model.specs.PlainSession.{PlainSession, Sessions, session_of, begun_session}
-use Rattle.session_model.specs.Change.{
-  Effect,
-  Began,
-  Ended,
-  Bound,
-  Parted,
-  Subscribed,
-  Replaced,
-  Unsubscribed,
-  Issued,
-  Acked,
-  Received,
-  Done,
-  Passed,
-  change,
-}
+use Rattle.session_model.specs.Change.{Effect, Began, Ended, Bound, Parted, Subscribed, Replaced, Unsubscribed, Issued}
+use Rattle.session_model.specs.Change.{Acked, Received, Done, Passed, change}
 use Rattle.session_model.specs.Acting.{numbers_from, changed_if, changed_session, on_session, without_session, act_one}
 
 -- a change leaves a session its client

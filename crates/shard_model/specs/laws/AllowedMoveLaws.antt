@@ -2,35 +2,10 @@
 use Rattle.std.proofs.Common.{◌≡◌, ℕ, Bool, true, false, ◌&&◌, not, List, refl, sym, ap, ◌∙◌}
 use Rattle.topic_model.specs.Profile.{Profile, Config}
 use Rattle.shard_model.specs.Capacity.{may_drop}
-use Rattle.shard_model.specs.ShardMoves.{
-  PendingChange,
-  Nothing,
-  AGroup,
-  ACut,
-  ADrop,
-  Shard,
-  ShardMove,
-  Begin,
-  Store,
-  BeginCut,
-  Rotate,
-  BeginDrop,
-  Drop,
-  Settle,
-  Show,
-  pends_nothing,
-  may_store,
-  may_rotate,
-  list_after,
-  begin_if,
-  if_group,
-  if_cut,
-  if_drop,
-  land_if,
-  settled_shard,
-  show_if,
-  shard_step,
-}
+use Rattle.shard_model.specs.ShardMoves.{PendingChange, Nothing, AGroup, ACut, ADrop, Shard, ShardMove, Begin, Store}
+use Rattle.shard_model.specs.ShardMoves.{BeginCut, Rotate, BeginDrop, Drop, Settle, Show, pends_nothing, may_store}
+use Rattle.shard_model.specs.ShardMoves.{may_rotate, list_after, begin_if, if_group, if_cut, if_drop, land_if}
+use Rattle.shard_model.specs.ShardMoves.{settled_shard, show_if, shard_step}
 use Rattle.shard_model.specs.AllowedMoves.{shard_allows}
 
 begin_same : (b : Bool) (pending : PendingChange) (s : Shard) → b ≡ false → begin_if b pending s ≡ s

@@ -1,26 +1,6 @@
 -- What is learned of few topics keeps within the streams and the nodes of a generation, whatever it is.
-use Rattle.std.proofs.Common.{
-  ◌≡◌,
-  ℕ,
-  ◌+◌,
-  ◌≤◌,
-  Bool,
-  true,
-  false,
-  ◌&&◌,
-  leb,
-  if◌then◌else◌,
-  List,
-  [],
-  ◌∷◌,
-  ◌++◌,
-  length,
-  refl,
-  sym,
-  ap,
-  ◌∙◌,
-  arith,
-}
+use Rattle.std.proofs.Common.{◌≡◌, ℕ, ◌+◌, ◌≤◌, Bool, true, false, ◌&&◌, leb, if◌then◌else◌, List, [], ◌∷◌, ◌++◌}
+use Rattle.std.proofs.Common.{length, refl, sym, ap, ◌∙◌, arith}
 use Rattle.std.specs.List.{sum_by}
 use Rattle.std.proofs.lemmas.Bool.{leb-true, le-leb}
 use Rattle.std.proofs.lemmas.List.{length-append}
@@ -28,22 +8,8 @@ use Rattle.std.proofs.lemmas.List.Sums.{sum_by-cons, sum_by_push}
 use Rattle.topic_model.specs.Profile.{Profile}
 use Rattle.topic_model.specs.StoredMessage.{StoredMessage}
 use Rattle.shard_model.specs.ShardList.{Cut}
-use Rattle.shard_model.specs.LearnedPath.{
-  Path,
-  Tokens,
-  edge_for,
-  threshold,
-  edges_at,
-  path_from,
-  has_path,
-  with_path,
-  learn_topic,
-  patterns_after,
-  with_each,
-  prefixes_from,
-  nodes_from,
-  nodes_of,
-}
+use Rattle.shard_model.specs.LearnedPath.{Path, Tokens, edge_for, threshold, edges_at, path_from, has_path, with_path}
+use Rattle.shard_model.specs.LearnedPath.{learn_topic, patterns_after, with_each, prefixes_from, nodes_from, nodes_of}
 use Rattle.shard_model.specs.Streams.{topics_of, patterns_if, patterns_in}
 use Rattle.shard_model.specs.Capacity.{learns_within, levels_of_all, are_few, learns_few_or_within}
 use Rattle.shard_model.specs.laws.PatternLaws.{both_true}

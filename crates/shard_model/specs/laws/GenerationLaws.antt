@@ -1,61 +1,20 @@
 -- A list in order stays in order, and has grown, where a generation is begun and where the oldest one is dropped.
-use Rattle.std.proofs.Common.{
-  ◌≡◌,
-  ℕ,
-  zero,
-  suc,
-  ◌+◌,
-  ◌-◌,
-  ◌≤◌,
-  ltb,
-  if◌then◌else◌,
-  List,
-  [],
-  ◌∷◌,
-  ◌++◌,
-  length,
-  drop,
-  Some,
-  None,
-  slice_get,
-  refl,
-  sym,
-  ap,
-  subst,
-  ◌∙◌,
-  arith,
-}
+use Rattle.std.proofs.Common.{◌≡◌, ℕ, zero, suc, ◌+◌, ◌-◌, ◌≤◌, ltb, if◌then◌else◌, List, [], ◌∷◌, ◌++◌, length, drop}
+use Rattle.std.proofs.Common.{Some, None, slice_get, refl, sym, ap, subst, ◌∙◌, arith}
 use Rattle.std.proofs.lemmas.Bool.{le-ltb}
 use Rattle.std.proofs.lemmas.List.{append-nil, length-drop, drop-drop, drop-map}
 use Rattle.std.proofs.lemmas.Option.{none-some, same_Some}
 use Rattle.topic_model.specs.StoredMessage.{StoredMessage}
 use Rattle.topic_model.specs.Profile.{Config}
-use Rattle.shard_model.specs.ShardList.{
-  Cut,
-  Awaited,
-  ShardList,
-  newest,
-  newest_of,
-  oldest_of,
-  floor_of,
-  next_of,
-  new_cut,
-  first_message,
-}
+use Rattle.shard_model.specs.ShardList.{Cut, Awaited, ShardList, newest, newest_of, oldest_of, floor_of, next_of}
+use Rattle.shard_model.specs.ShardList.{new_cut, first_message}
 use Rattle.topic_model.specs.Places.{HasPlace}
 use Rattle.shard_model.specs.Growing.{IsSame, HasGrown}
 use Rattle.shard_model.specs.Capacity.{sealed_at, rotated, dropped}
 use Rattle.shard_model.specs.SweepOrder.{counted_from}
 use Rattle.shard_model.specs.Lists.{IsBefore, IsRow, IsList}
-use Rattle.shard_model.specs.laws.ListLaws.{
-  row_numbers,
-  newest_number,
-  not_newer,
-  row_first,
-  row_cons,
-  same_itself,
-  adding_grows,
-}
+use Rattle.shard_model.specs.laws.ListLaws.{row_numbers, newest_number, not_newer, row_first, row_cons, same_itself}
+use Rattle.shard_model.specs.laws.ListLaws.{adding_grows}
 
 -- ---- the newest is sealed
 

@@ -1,69 +1,19 @@
 -- As a list grows, its generations keep the streams of their messages.
-use Rattle.std.proofs.Common.{
-  ◌≡◌,
-  ◌⊎◌,
-  inl,
-  inr,
-  ℕ,
-  zero,
-  suc,
-  ◌+◌,
-  ◌-◌,
-  ◌<◌,
-  ◌≤◌,
-  Bool,
-  true,
-  false,
-  if◌then◌else◌,
-  List,
-  [],
-  ◌∷◌,
-  ◌++◌,
-  length,
-  take,
-  drop,
-  Some,
-  None,
-  slice_get,
-  refl,
-  sym,
-  ap,
-  subst,
-  ◌∙◌,
-  arith,
-}
+use Rattle.std.proofs.Common.{◌≡◌, ◌⊎◌, inl, inr, ℕ, zero, suc, ◌+◌, ◌-◌, ◌<◌, ◌≤◌, Bool, true, false, if◌then◌else◌}
+use Rattle.std.proofs.Common.{List, [], ◌∷◌, ◌++◌, length, take, drop, Some, None, slice_get, refl, sym, ap, subst, ◌∙◌}
+use Rattle.std.proofs.Common.{arith}
 use Rattle.std.proofs.lemmas.Bool.{le-ltb}
 use Rattle.std.proofs.lemmas.List.{map-append, length-drop, drop-drop}
 use Rattle.std.proofs.lemmas.Option.{none-some, same_Some}
 use Rattle.topic_model.specs.StoredMessage.{StoredMessage}
 use Rattle.topic_model.specs.Profile.{Profile}
 use Rattle.shard_model.specs.LearnedPath.{patterns_after}
-use Rattle.shard_model.specs.ShardList.{
-  Cut,
-  ShardList,
-  newest,
-  newest_of,
-  oldest_of,
-  floor_of,
-  next_of,
-  first_message,
-  message_at,
-}
+use Rattle.shard_model.specs.ShardList.{Cut, ShardList, newest, newest_of, oldest_of, floor_of, next_of, first_message}
+use Rattle.shard_model.specs.ShardList.{message_at}
 use Rattle.topic_model.specs.Places.{HasPlace}
 use Rattle.shard_model.specs.Growing.{IsSame, HasGrown}
-use Rattle.shard_model.specs.Streams.{
-  StreamMessage,
-  streams_from,
-  in_one_stream,
-  streams_if,
-  streams_of,
-  topics_of,
-  end_before,
-  messages_between,
-  HeldGeneration,
-  held_from,
-  held_generations,
-}
+use Rattle.shard_model.specs.Streams.{StreamMessage, streams_from, in_one_stream, streams_if, streams_of, topics_of}
+use Rattle.shard_model.specs.Streams.{end_before, messages_between, HeldGeneration, held_from, held_generations}
 use Rattle.shard_model.specs.Lists.{IsRow, IsList}
 use Rattle.shard_model.specs.laws.StreamLaws.{streams_of_both}
 use Rattle.shard_model.specs.laws.ListLaws.{number_is_one}

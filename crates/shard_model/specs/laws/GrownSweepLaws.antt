@@ -1,38 +1,8 @@
 -- As a list grows, a sweep in order stays in order, and counts of what the list had what it counted, and nothing of
 -- what came.
-use Rattle.std.proofs.Common.{
-  ◌≡◌,
-  ◌⊎◌,
-  inl,
-  inr,
-  ℕ,
-  zero,
-  suc,
-  ◌+◌,
-  ◌-◌,
-  ◌<◌,
-  ◌≤◌,
-  Bool,
-  true,
-  false,
-  ◌&&◌,
-  ◌||◌,
-  ltb,
-  eqb,
-  if◌then◌else◌,
-  List,
-  [],
-  ◌∷◌,
-  length,
-  Some,
-  slice_get,
-  refl,
-  sym,
-  ap,
-  subst,
-  ◌∙◌,
-  arith,
-}
+use Rattle.std.proofs.Common.{◌≡◌, ◌⊎◌, inl, inr, ℕ, zero, suc, ◌+◌, ◌-◌, ◌<◌, ◌≤◌, Bool, true, false, ◌&&◌, ◌||◌, ltb}
+use Rattle.std.proofs.Common.{eqb, if◌then◌else◌, List, [], ◌∷◌, length, Some, slice_get, refl, sym, ap, subst, ◌∙◌}
+use Rattle.std.proofs.Common.{arith}
 use Rattle.std.proofs.lemmas.Bool.{cases_lt, lt-ltb, le-ltb}
 use Rattle.std.proofs.lemmas.Bool.Decides.{nat_tests}
 use Rattle.std.proofs.lemmas.Option.{none-some, same_Some}
@@ -42,36 +12,17 @@ use Rattle.shard_model.specs.declared.sweep.Sweep.{Sweep}
 use Rattle.shard_model.specs.ShardList.{Cut, ShardList, newest, oldest_of, floor_of, next_of}
 use Rattle.topic_model.specs.Places.{HasPlace}
 use Rattle.shard_model.specs.Growing.{HasGrown}
-use Rattle.shard_model.specs.Streams.{
-  StreamMessage,
-  HeldGeneration,
-  held_from,
-  held_generations,
-  streams_of,
-  messages_between,
-}
+use Rattle.shard_model.specs.Streams.{StreamMessage, HeldGeneration, held_from, held_generations, streams_of}
+use Rattle.shard_model.specs.Streams.{messages_between}
 use Rattle.shard_model.specs.SweepOrder.{at_cut, held_sweep, is_behind, is_issued_in, is_issued_by, is_in_order}
 use Rattle.shard_model.specs.Lists.{IsRow, IsList}
 use Rattle.shard_model.specs.laws.ListLaws.{newest_number, not_older, not_newer, row_first}
 use Rattle.shard_model.specs.laws.OrderLaws.{newest_in_order}
 use Rattle.shard_model.specs.laws.GrownLaws.{Continues, streams_stay}
 use Rattle.shard_model.specs.laws.PlaceLaws.{place_left, counted_place}
-use Rattle.shard_model.specs.laws.HeldLaws.{
-  end_of,
-  AreHeld,
-  held_place,
-  held_number,
-  held_offset,
-  held_apart,
-  streamed_one,
-  end_is,
-  end_gone,
-  list_held,
-  Lies,
-  list_lies,
-  lies_in_list,
-  held_long,
-}
+use Rattle.shard_model.specs.laws.HeldLaws.{end_of, AreHeld, held_place, held_number, held_offset, held_apart}
+use Rattle.shard_model.specs.laws.HeldLaws.{streamed_one, end_is, end_gone, list_held, Lies, list_lies, lies_in_list}
+use Rattle.shard_model.specs.laws.HeldLaws.{held_long}
 use Rattle.shard_model.specs.laws.SweepLaws.{InOrder, order_is, order_from, issued_is}
 
 -- at each place of a list stands something

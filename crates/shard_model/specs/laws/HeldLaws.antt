@@ -1,40 +1,8 @@
 -- The held generations of a list in order: their numbers and their messages go on, one generation behind another, and
--- within one
--- generation a topic lies in one stream.
-use Rattle.std.proofs.Common.{
-  ◌≡◌,
-  ◌⊎◌,
-  inl,
-  inr,
-  ℕ,
-  zero,
-  suc,
-  ◌+◌,
-  ◌-◌,
-  ◌<◌,
-  ◌≤◌,
-  Bool,
-  true,
-  false,
-  eqb,
-  if◌then◌else◌,
-  List,
-  [],
-  ◌∷◌,
-  ◌++◌,
-  length,
-  map,
-  take,
-  drop,
-  Some,
-  slice_get,
-  refl,
-  sym,
-  ap,
-  subst,
-  ◌∙◌,
-  arith,
-}
+-- within one generation a topic lies in one stream.
+use Rattle.std.proofs.Common.{◌≡◌, ◌⊎◌, inl, inr, ℕ, zero, suc, ◌+◌, ◌-◌, ◌<◌, ◌≤◌, Bool, true, false, eqb}
+use Rattle.std.proofs.Common.{if◌then◌else◌, List, [], ◌∷◌, ◌++◌, length, map, take, drop, Some, slice_get, refl, sym}
+use Rattle.std.proofs.Common.{ap, subst, ◌∙◌, arith}
 use Rattle.std.proofs.lemmas.Bool.{cases_order, ne_eqb, eq-eqb}
 use Rattle.std.proofs.lemmas.List.{length-map, length-drop, length-take-le, take-append-drop, drop-drop, drop_all}
 use Rattle.std.proofs.lemmas.Option.{none-some, same_Some, slice_get_within}
@@ -43,35 +11,17 @@ use Rattle.topic_model.specs.StoredMessage.{StoredMessage}
 use Rattle.topic_model.specs.Profile.{Profile}
 use Rattle.shard_model.specs.ShardList.{Cut, ShardList, oldest_of, floor_of, next_of}
 use Rattle.shard_model.specs.LearnedPath.{Path, path_from, with_path, patterns_after}
-use Rattle.shard_model.specs.Streams.{
-  StreamMessage,
-  in_stream,
-  streams_from,
-  in_one_stream,
-  streams_if,
-  streams_of,
-  topics_of,
-  messages_between,
-  end_before,
-  HeldGeneration,
-  held_from,
-  held_generations,
-}
+use Rattle.shard_model.specs.Streams.{StreamMessage, in_stream, streams_from, in_one_stream, streams_if, streams_of}
+use Rattle.shard_model.specs.Streams.{topics_of, messages_between, end_before, HeldGeneration, held_from}
+use Rattle.shard_model.specs.Streams.{held_generations}
 use Rattle.shard_model.specs.Wanted.{same_topic}
 use Rattle.shard_model.specs.SweepOrder.{counted_from, end_in}
 use Rattle.shard_model.specs.Lists.{IsRow, IsList}
 use Rattle.shard_model.specs.laws.NumberLaws.{streams_exact_from}
 use Rattle.shard_model.specs.laws.ListLaws.{row_first}
 use Rattle.topic_model.specs.Places.{HasPlace}
-use Rattle.shard_model.specs.laws.PlaceLaws.{
-  place_left,
-  place_right,
-  place_either,
-  place_mapped,
-  mapped_place,
-  counted_place,
-  counted_cut,
-}
+use Rattle.shard_model.specs.laws.PlaceLaws.{place_left, place_right, place_either, place_mapped, mapped_place}
+use Rattle.shard_model.specs.laws.PlaceLaws.{counted_place, counted_cut}
 
 abbrev pub offset_of : StreamMessage → ℕ
 offset_of s = s.message.offset

@@ -1,56 +1,14 @@
 -- A list in order stays in order, and has grown, as groups are stored, generations begun and the oldest ones dropped.
-use Rattle.std.proofs.Common.{
-  ◌≡◌,
-  ◌⊎◌,
-  inl,
-  inr,
-  ℕ,
-  zero,
-  suc,
-  ◌+◌,
-  ◌-◌,
-  ◌<◌,
-  ◌≤◌,
-  Bool,
-  true,
-  false,
-  ltb,
-  if◌then◌else◌,
-  List,
-  [],
-  ◌∷◌,
-  ◌++◌,
-  length,
-  drop,
-  get_or,
-  Some,
-  None,
-  slice_get,
-  refl,
-  sym,
-  ap,
-  subst,
-  ◌∙◌,
-  append_assoc,
-  arith,
-}
+use Rattle.std.proofs.Common.{◌≡◌, ◌⊎◌, inl, inr, ℕ, zero, suc, ◌+◌, ◌-◌, ◌<◌, ◌≤◌, Bool, true, false, ltb}
+use Rattle.std.proofs.Common.{if◌then◌else◌, List, [], ◌∷◌, ◌++◌, length, drop, get_or, Some, None, slice_get, refl}
+use Rattle.std.proofs.Common.{sym, ap, subst, ◌∙◌, append_assoc, arith}
 use Rattle.std.proofs.lemmas.Bool.{cases_lt}
 use Rattle.std.proofs.lemmas.List.{append-nil, length-append, map-append}
 use Rattle.std.proofs.lemmas.Option.{none-some, same_Some, slice_get_within, slice_get-get_or}
 use Rattle.topic_model.specs.StoredMessage.{StoredMessage}
 use Rattle.topic_model.specs.Profile.{Config}
-use Rattle.shard_model.specs.ShardList.{
-  Cut,
-  ShardList,
-  newest,
-  newest_of,
-  oldest_of,
-  no_cut,
-  floor_of,
-  next_of,
-  first_message,
-  opening_list,
-}
+use Rattle.shard_model.specs.ShardList.{Cut, ShardList, newest, newest_of, oldest_of, no_cut, floor_of, next_of}
+use Rattle.shard_model.specs.ShardList.{first_message, opening_list}
 use Rattle.shard_model.specs.Storing.{Op, Store, Release, Forget, acts, act_if, placed, store}
 use Rattle.topic_model.specs.Places.{HasPlace}
 use Rattle.shard_model.specs.Growing.{IsSame, HasGrown}

@@ -1,6 +1,5 @@
 -- What a shard's moves and a crash keep: what is stored only grows, and loses messages by a drop alone; a shard in
--- order stays in order;
--- and what is shown changes by Show alone.
+-- order stays in order; and what is shown changes by Show alone.
 use Rattle.std.proofs.Common.{◌≡◌, ℕ, ◌+◌, Bool, true, false, ◌&&◌, List, [], ◌∷◌, ◌++◌, refl, sym, ap, ◌∙◌}
 use Rattle.std.proofs.lemmas.Bool.{true≢false}
 use Rattle.std.proofs.lemmas.List.{append-nil}
@@ -13,39 +12,10 @@ use Rattle.shard_model.specs.Capacity.{may_drop, sealed_at}
 use Rattle.shard_model.specs.Lists.{IsRow, IsList}
 use Rattle.shard_model.specs.laws.ListLaws.{adding_grows, grown_then, opening_in_order, store_in_order, storing_grows}
 use Rattle.shard_model.specs.laws.GenerationLaws.{rotated_in_order, rotated_grows, dropped_in_order, dropped_grows}
-use Rattle.shard_model.specs.ShardMoves.{
-  PendingChange,
-  Nothing,
-  AGroup,
-  ACut,
-  ADrop,
-  Shard,
-  opening_shard,
-  ShardMove,
-  Begin,
-  Store,
-  BeginCut,
-  Rotate,
-  BeginDrop,
-  Drop,
-  Settle,
-  Show,
-  pends_nothing,
-  may_store,
-  may_rotate,
-  list_after,
-  gone_in,
-  begin_if,
-  if_group,
-  if_cut,
-  if_drop,
-  land_if,
-  settled_shard,
-  show_if,
-  shard_step,
-  shard_run,
-  crashed_shard,
-}
+use Rattle.shard_model.specs.ShardMoves.{PendingChange, Nothing, AGroup, ACut, ADrop, Shard, opening_shard, ShardMove}
+use Rattle.shard_model.specs.ShardMoves.{Begin, Store, BeginCut, Rotate, BeginDrop, Drop, Settle, Show, pends_nothing}
+use Rattle.shard_model.specs.ShardMoves.{may_store, may_rotate, list_after, gone_in, begin_if, if_group, if_cut}
+use Rattle.shard_model.specs.ShardMoves.{if_drop, land_if, settled_shard, show_if, shard_step, shard_run, crashed_shard}
 use Rattle.shard_model.specs.Shards.{IsShard, is_show}
 
 -- ---- what pends goes in

@@ -1,58 +1,10 @@
 -- The next run of a sweep in order is what it is to be.
-use Rattle.std.proofs.Common.{
-  ◌≡◌,
-  ◌⊎◌,
-  inl,
-  inr,
-  ℕ,
-  zero,
-  suc,
-  ◌+◌,
-  ◌<◌,
-  ◌≤◌,
-  Bool,
-  true,
-  false,
-  ◌&&◌,
-  ◌||◌,
-  ltb,
-  leb,
-  eqb,
-  if◌then◌else◌,
-  List,
-  [],
-  ◌∷◌,
-  length,
-  filter,
-  take,
-  Option,
-  Some,
-  None,
-  slice_get,
-  refl,
-  sym,
-  ap,
-  subst,
-  ◌∙◌,
-  arith,
-}
+use Rattle.std.proofs.Common.{◌≡◌, ◌⊎◌, inl, inr, ℕ, zero, suc, ◌+◌, ◌<◌, ◌≤◌, Bool, true, false, ◌&&◌, ◌||◌, ltb, leb}
+use Rattle.std.proofs.Common.{eqb, if◌then◌else◌, List, [], ◌∷◌, length, filter, take, Option, Some, None, slice_get}
+use Rattle.std.proofs.Common.{refl, sym, ap, subst, ◌∙◌, arith}
 use Rattle.std.specs.List.{list_any}
-use Rattle.std.proofs.lemmas.Bool.{
-  and_parts,
-  and_from,
-  cases_lt,
-  cases_eq,
-  cases_order,
-  cases_Bool,
-  eq-eqb,
-  eqb-true,
-  ltb-true,
-  leb-true,
-  lt-ltb,
-  le-ltb,
-  le-leb,
-  false≢true,
-}
+use Rattle.std.proofs.lemmas.Bool.{and_parts, and_from, cases_lt, cases_eq, cases_order, cases_Bool, eq-eqb, eqb-true}
+use Rattle.std.proofs.lemmas.Bool.{ltb-true, leb-true, lt-ltb, le-ltb, le-leb, false≢true}
 use Rattle.std.proofs.lemmas.Bool.Decides.{nat_tests}
 use Rattle.std.proofs.lemmas.List.{length-take, take-take}
 use Rattle.std.proofs.lemmas.Option.{none-some, same_Some, slice_get_within}
@@ -62,55 +14,17 @@ use Rattle.shard_model.specs.declared.sweep.Sweep.{Sweep}
 use Rattle.shard_model.specs.ShardList.{ShardList, oldest_of, floor_of, next_of}
 use Rattle.shard_model.specs.Streams.{StreamMessage, HeldGeneration, held_generations}
 use Rattle.shard_model.specs.Wanted.{is_wanted, wanted, same_topic}
-use Rattle.shard_model.specs.SweepOrder.{
-  at_cut,
-  held_sweep,
-  is_behind,
-  is_issued_in,
-  is_issued_by,
-  stretches,
-  is_in,
-  wanted_in,
-  Run,
-  first_run,
-  at_most,
-  next_run,
-  is_in_order,
-}
+use Rattle.shard_model.specs.SweepOrder.{at_cut, held_sweep, is_behind, is_issued_in, is_issued_by, stretches, is_in}
+use Rattle.shard_model.specs.SweepOrder.{wanted_in, Run, first_run, at_most, next_run, is_in_order}
 use Rattle.shard_model.specs.Lists.{IsList}
 use Rattle.shard_model.specs.laws.ListLaws.{newest_number}
 use Rattle.topic_model.specs.Places.{HasPlace}
-use Rattle.shard_model.specs.laws.PlaceLaws.{
-  place_kept,
-  kept_place,
-  any_place,
-  place_any,
-  place_taken,
-  place_within,
-  taken_under,
-  taken_before,
-  place_mapped,
-  mapped_place,
-  Rising,
-  rising_places,
-  kept_rise,
-}
-use Rattle.shard_model.specs.laws.HeldLaws.{
-  end_of,
-  held_place,
-  held_number,
-  held_offset,
-  held_one,
-  held_apart,
-  streamed_one,
-  same_stream,
-  end_is,
-  list_held,
-  Lies,
-  list_lies,
-  lies_in_list,
-  held_long,
-}
+use Rattle.shard_model.specs.laws.PlaceLaws.{place_kept, kept_place, any_place, place_any, place_taken, place_within}
+use Rattle.shard_model.specs.laws.PlaceLaws.{taken_under, taken_before, place_mapped, mapped_place, Rising}
+use Rattle.shard_model.specs.laws.PlaceLaws.{rising_places, kept_rise}
+use Rattle.shard_model.specs.laws.HeldLaws.{end_of, held_place, held_number, held_offset, held_one, held_apart}
+use Rattle.shard_model.specs.laws.HeldLaws.{streamed_one, same_stream, end_is, list_held, Lies, list_lies, lies_in_list}
+use Rattle.shard_model.specs.laws.HeldLaws.{held_long}
 use Rattle.shard_model.specs.laws.RunLaws.{IsRun, RunOutcome}
 use Rattle.shard_model.specs.NextRun.{IsNextRun}
 use Rattle.shard_model.specs.laws.SweepLaws.{order_is, order_from, list_run, issued_is}

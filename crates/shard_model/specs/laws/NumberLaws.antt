@@ -1,42 +1,9 @@
 -- The stream of each message is the number of its topic's pattern.
-use Rattle.std.proofs.Common.{
-  ◌≡◌,
-  ℕ,
-  suc,
-  ◌+◌,
-  Bool,
-  true,
-  false,
-  ◌||◌,
-  if◌then◌else◌,
-  List,
-  [],
-  ◌∷◌,
-  ◌++◌,
-  map,
-  Some,
-  slice_get,
-  refl,
-  sym,
-  ap,
-  subst,
-  ◌∙◌,
-  arith,
-}
+use Rattle.std.proofs.Common.{◌≡◌, ℕ, suc, ◌+◌, Bool, true, false, ◌||◌, if◌then◌else◌, List, [], ◌∷◌, ◌++◌, map, Some}
+use Rattle.std.proofs.Common.{slice_get, refl, sym, ap, subst, ◌∙◌, arith}
 use Rattle.topic_model.specs.StoredMessage.{StoredMessage}
-use Rattle.shard_model.specs.LearnedPath.{
-  Path,
-  Tokens,
-  same_path,
-  path_from,
-  has_path,
-  with_path,
-  patterns_after,
-  learned_path,
-  patterns_of,
-  number_from,
-  number_of,
-}
+use Rattle.shard_model.specs.LearnedPath.{Path, Tokens, same_path, path_from, has_path, with_path, patterns_after}
+use Rattle.shard_model.specs.LearnedPath.{learned_path, patterns_of, number_from, number_of}
 use Rattle.shard_model.specs.Streams.{or_zero, in_stream, streams_from, topics_of}
 use Rattle.shard_model.specs.laws.PatternLaws.{path_is, patterns_carried, path_carried}
 use Rattle.shard_model.specs.laws.StreamLaws.{learned_of_both, number_stays}

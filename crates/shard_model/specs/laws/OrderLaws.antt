@@ -1,44 +1,12 @@
 -- What a list in order has: its generations by their numbers, where they begin, which is sealed, and each message at
 -- its offset.
-use Rattle.std.proofs.Common.{
-  ◌≡◌,
-  ℕ,
-  zero,
-  suc,
-  ◌+◌,
-  ◌-◌,
-  ◌<◌,
-  ◌≤◌,
-  if◌then◌else◌,
-  List,
-  [],
-  ◌∷◌,
-  length,
-  map,
-  drop,
-  Some,
-  None,
-  slice_get,
-  refl,
-  sym,
-  ap,
-  ◌∙◌,
-  arith,
-}
+use Rattle.std.proofs.Common.{◌≡◌, ℕ, zero, suc, ◌+◌, ◌-◌, ◌<◌, ◌≤◌, if◌then◌else◌, List, [], ◌∷◌, length, map, drop}
+use Rattle.std.proofs.Common.{Some, None, slice_get, refl, sym, ap, ◌∙◌, arith}
 use Rattle.std.proofs.lemmas.Bool.{le-ltb}
 use Rattle.std.proofs.lemmas.Option.{none-some, same_Some}
 use Rattle.topic_model.specs.StoredMessage.{StoredMessage}
-use Rattle.shard_model.specs.ShardList.{
-  Cut,
-  ShardList,
-  newest,
-  newest_of,
-  oldest_of,
-  floor_of,
-  next_of,
-  first_message,
-  message_at,
-}
+use Rattle.shard_model.specs.ShardList.{Cut, ShardList, newest, newest_of, oldest_of, floor_of, next_of, first_message}
+use Rattle.shard_model.specs.ShardList.{message_at}
 use Rattle.topic_model.specs.Places.{HasPlace}
 use Rattle.shard_model.specs.SweepOrder.{counted_from}
 use Rattle.shard_model.specs.Lists.{IsRow, IsList}

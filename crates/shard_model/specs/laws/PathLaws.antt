@@ -1,60 +1,13 @@
 -- A topic that was placed keeps its path, whatever topics come later.
-use Rattle.std.proofs.Common.{
-  ◌≡◌,
-  ℕ,
-  Bool,
-  true,
-  false,
-  ◌||◌,
-  nat_le,
-  if◌then◌else◌,
-  List,
-  [],
-  ◌∷◌,
-  ◌++◌,
-  refl,
-  sym,
-  ap,
-  subst,
-  ◌∙◌,
-  append_assoc,
-}
+use Rattle.std.proofs.Common.{◌≡◌, ℕ, Bool, true, false, ◌||◌, nat_le, if◌then◌else◌, List, [], ◌∷◌, ◌++◌, refl, sym}
+use Rattle.std.proofs.Common.{ap, subst, ◌∙◌, append_assoc}
 use Rattle.std.proofs.lemmas.List.{append-nil}
 use Rattle.std.proofs.lemmas.List.Folds.{list_any-append}
-use Rattle.shard_model.specs.LearnedPath.{
-  Level,
-  Token,
-  Plus,
-  Path,
-  Tokens,
-  same_level,
-  same_path,
-  edge_behind,
-  has_edge,
-  with_edge,
-  edges_at,
-  edge_for,
-  token_count,
-  threshold,
-  path_from,
-  learned_path,
-  has_path,
-  with_path,
-  learn_topic,
-  patterns_after,
-}
-use Rattle.shard_model.specs.laws.PatternLaws.{
-  level_same,
-  level_is,
-  path_same,
-  or_left,
-  or_right,
-  stays_added,
-  comes,
-  edges-append,
-  known_adds_none,
-  path_carried,
-}
+use Rattle.shard_model.specs.LearnedPath.{Level, Token, Plus, Path, Tokens, same_level, same_path, edge_behind}
+use Rattle.shard_model.specs.LearnedPath.{has_edge, with_edge, edges_at, edge_for, token_count, threshold, path_from}
+use Rattle.shard_model.specs.LearnedPath.{learned_path, has_path, with_path, learn_topic, patterns_after}
+use Rattle.shard_model.specs.laws.PatternLaws.{level_same, level_is, path_same, or_left, or_right, stays_added, comes}
+use Rattle.shard_model.specs.laws.PatternLaws.{edges-append, known_adds_none, path_carried}
 use Rattle.shard_model.specs.laws.StreamLaws.{learned_of_both}
 
 -- ---- which edge is chosen

@@ -1,50 +1,12 @@
 -- The patterns that are carried from topic to topic are those of the whole list of paths.
-use Rattle.std.proofs.Common.{
-  ◌≡◌,
-  ℕ,
-  Bool,
-  true,
-  false,
-  ◌&&◌,
-  ◌||◌,
-  if◌then◌else◌,
-  List,
-  [],
-  ◌∷◌,
-  ◌++◌,
-  refl,
-  sym,
-  ap,
-  subst,
-  ◌∙◌,
-  append_assoc,
-}
+use Rattle.std.proofs.Common.{◌≡◌, ℕ, Bool, true, false, ◌&&◌, ◌||◌, if◌then◌else◌, List, [], ◌∷◌, ◌++◌, refl, sym, ap}
+use Rattle.std.proofs.Common.{subst, ◌∙◌, append_assoc}
 use Rattle.std.proofs.lemmas.List.{append-nil}
 use Rattle.std.proofs.lemmas.List.Folds.{list_any-append}
 use Rattle.std.proofs.lemmas.Slice.Eq.{bytes_eq-Decides}
-use Rattle.shard_model.specs.LearnedPath.{
-  Level,
-  Token,
-  Plus,
-  Path,
-  Tokens,
-  same_level,
-  same_path,
-  edge_behind,
-  has_edge,
-  with_edge,
-  edges_at,
-  edge_for,
-  threshold,
-  path_from,
-  paths_of,
-  learned_path,
-  has_path,
-  with_path,
-  distinct,
-  patterns_of,
-  patterns_after,
-}
+use Rattle.shard_model.specs.LearnedPath.{Level, Token, Plus, Path, Tokens, same_level, same_path, edge_behind}
+use Rattle.shard_model.specs.LearnedPath.{has_edge, with_edge, edges_at, edge_for, threshold, path_from, paths_of}
+use Rattle.shard_model.specs.LearnedPath.{learned_path, has_path, with_path, distinct, patterns_of, patterns_after}
 
 pub level_same : (a : Level) → same_level a a ≡ true
 level_same (Token x) = (bytes_eq-Decides x x).1 refl

@@ -1,45 +1,8 @@
 -- The next run of a sweep in order: what the sweep counts as issued stays so up to the stretch that the run lies in,
--- and what lies
--- between isn't wanted.
-use Rattle.std.proofs.Common.{
-  ◌≡◌,
-  ◌⊎◌,
-  inl,
-  inr,
-  ℕ,
-  zero,
-  suc,
-  ◌+◌,
-  ◌-◌,
-  ◌<◌,
-  ◌≤◌,
-  Bool,
-  true,
-  false,
-  ◌&&◌,
-  ◌||◌,
-  ltb,
-  leb,
-  eqb,
-  if◌then◌else◌,
-  List,
-  [],
-  ◌∷◌,
-  ◌++◌,
-  length,
-  map,
-  filter,
-  Option,
-  Some,
-  None,
-  slice_get,
-  refl,
-  sym,
-  ap,
-  subst,
-  ◌∙◌,
-  arith,
-}
+-- and what lies between isn't wanted.
+use Rattle.std.proofs.Common.{◌≡◌, ◌⊎◌, inl, inr, ℕ, zero, suc, ◌+◌, ◌-◌, ◌<◌, ◌≤◌, Bool, true, false, ◌&&◌, ◌||◌, ltb}
+use Rattle.std.proofs.Common.{leb, eqb, if◌then◌else◌, List, [], ◌∷◌, ◌++◌, length, map, filter, Option, Some, None}
+use Rattle.std.proofs.Common.{slice_get, refl, sym, ap, subst, ◌∙◌, arith}
 use Rattle.std.proofs.lemmas.Bool.{cases_eq, cases_lt, cases_order, ne_eqb, le-leb, lt-leb}
 use Rattle.std.proofs.lemmas.Bool.Decides.{nat_tests}
 use Rattle.std.proofs.lemmas.List.{append-nil}
@@ -48,21 +11,8 @@ use Rattle.topic_model.specs.StoredMessage.{StoredMessage}
 use Rattle.shard_model.specs.declared.sweep.Sweep.{Sweep}
 use Rattle.shard_model.specs.Streams.{StreamMessage, HeldGeneration}
 use Rattle.shard_model.specs.Wanted.{is_wanted}
-use Rattle.shard_model.specs.SweepOrder.{
-  at_cut,
-  is_behind,
-  is_issued_in,
-  Stretch,
-  counted_from,
-  stream_end,
-  window,
-  grown_window,
-  stretches_from,
-  is_in,
-  wanted_in,
-  Run,
-  first_run,
-}
+use Rattle.shard_model.specs.SweepOrder.{at_cut, is_behind, is_issued_in, Stretch, counted_from, stream_end, window}
+use Rattle.shard_model.specs.SweepOrder.{grown_window, stretches_from, is_in, wanted_in, Run, first_run}
 use Rattle.topic_model.specs.Places.{HasPlace}
 use Rattle.shard_model.specs.laws.PlaceLaws.{none_kept}
 use Rattle.shard_model.specs.laws.HeldLaws.{AreHeld, held_offset, held_one}

@@ -1,18 +1,8 @@
 -- What was learned and streamed stays as topics and messages are added.
 use Rattle.std.proofs.Common.{◌≡◌, ℕ, ◌+◌, Bool, true, false, if◌then◌else◌, List, [], ◌∷◌, ◌++◌, Some, refl, ap}
 use Rattle.topic_model.specs.StoredMessage.{StoredMessage}
-use Rattle.shard_model.specs.LearnedPath.{
-  Path,
-  Tokens,
-  same_path,
-  path_from,
-  has_path,
-  with_path,
-  learn_topic,
-  patterns_after,
-  number_from,
-  number_of,
-}
+use Rattle.shard_model.specs.LearnedPath.{Path, Tokens, same_path, path_from, has_path, with_path, learn_topic}
+use Rattle.shard_model.specs.LearnedPath.{patterns_after, number_from, number_of}
 use Rattle.shard_model.specs.Streams.{in_stream, streams_from, topics_of}
 
 pub learned_of_both : (top below : ℕ) (patterns : List Path) (xs ys : List Tokens) →

@@ -1,84 +1,24 @@
 -- Where a sweep in order comes to over a list in order: a run, or none where it counts all that is wanted; and what it
 -- counts of a message.
-use Rattle.std.proofs.Common.{
-  ◌≡◌,
-  ◌⊎◌,
-  inl,
-  inr,
-  ℕ,
-  suc,
-  ◌+◌,
-  ◌<◌,
-  ◌≤◌,
-  Bool,
-  true,
-  false,
-  ◌&&◌,
-  ltb,
-  leb,
-  if◌then◌else◌,
-  List,
-  [],
-  ◌∷◌,
-  length,
-  filter,
-  refl,
-  sym,
-  ap,
-  subst,
-  ◌∙◌,
-  arith,
-}
+use Rattle.std.proofs.Common.{◌≡◌, ◌⊎◌, inl, inr, ℕ, suc, ◌+◌, ◌<◌, ◌≤◌, Bool, true, false, ◌&&◌, ltb, leb}
+use Rattle.std.proofs.Common.{if◌then◌else◌, List, [], ◌∷◌, length, filter, refl, sym, ap, subst, ◌∙◌, arith}
 use Rattle.std.specs.List.{list_any}
-use Rattle.std.proofs.lemmas.Bool.{
-  and_parts,
-  and_from,
-  and_left,
-  and_right,
-  cases_eq,
-  cases_Bool,
-  eq-eqb,
-  eqb-true,
-  ltb-true,
-  ltb-false,
-  leb-true,
-  le-leb,
-  lt-leb,
-}
+use Rattle.std.proofs.lemmas.Bool.{and_parts, and_from, and_left, and_right, cases_eq, cases_Bool, eq-eqb, eqb-true}
+use Rattle.std.proofs.lemmas.Bool.{ltb-true, ltb-false, leb-true, le-leb, lt-leb}
 use Rattle.std.proofs.lemmas.Option.{slice_get_within}
 use Rattle.topic_model.specs.Profile.{Profile}
 use Rattle.shard_model.specs.declared.sweep.Sweep.{Sweep}
 use Rattle.shard_model.specs.ShardList.{ShardList, newest, oldest_of, floor_of, next_of}
 use Rattle.shard_model.specs.Streams.{StreamMessage, HeldGeneration, held_generations}
-use Rattle.shard_model.specs.SweepOrder.{
-  at_cut,
-  held_sweep,
-  is_issued_in,
-  is_at,
-  is_issued_by,
-  stretches_from,
-  stretches,
-  first_run,
-  end_in,
-  is_in_order,
-}
+use Rattle.shard_model.specs.SweepOrder.{at_cut, held_sweep, is_issued_in, is_at, is_issued_by, stretches_from}
+use Rattle.shard_model.specs.SweepOrder.{stretches, first_run, end_in, is_in_order}
 use Rattle.shard_model.specs.Lists.{IsList}
 use Rattle.shard_model.specs.laws.ListLaws.{newest_number, not_older}
 use Rattle.shard_model.specs.laws.OrderLaws.{newest_in_order}
 use Rattle.topic_model.specs.Places.{HasPlace}
 use Rattle.shard_model.specs.laws.PlaceLaws.{any_place, none_places}
-use Rattle.shard_model.specs.laws.HeldLaws.{
-  AreHeld,
-  held_place,
-  held_number,
-  streamed_one,
-  end_of,
-  end_by_cuts,
-  end_is,
-  end_gone,
-  list_held,
-  held_long,
-}
+use Rattle.shard_model.specs.laws.HeldLaws.{AreHeld, held_place, held_number, streamed_one, end_of, end_by_cuts, end_is}
+use Rattle.shard_model.specs.laws.HeldLaws.{end_gone, list_held, held_long}
 use Rattle.shard_model.specs.laws.RunLaws.{RunOutcome, alike_itself, generations_run}
 
 -- ---- a sweep in order

@@ -6,18 +6,8 @@ use Rattle.std.proofs.lemmas.Bool.Decides.{nat_tests}
 use Rattle.topic_model.specs.declared.refused.TopicRefused.TheVariants as Topic
 use Rattle.topic_model.specs.declared.refused.FilterRefused.TheVariants as Filter
 use Rattle.topic_model.specs.Levels.{levels_of}
-use Rattle.topic_model.specs.Texts.{
-  most_levels,
-  most_filter,
-  is_empty,
-  has,
-  has_wildcard,
-  has_many_levels,
-  is_bad_plus,
-  has_bad_hash,
-  topic_refusal,
-  filter_refusal,
-}
+use Rattle.topic_model.specs.Texts.{most_levels, most_filter, is_empty, has, has_wildcard, has_many_levels, is_bad_plus}
+use Rattle.topic_model.specs.Texts.{has_bad_hash, topic_refusal, filter_refusal}
 
 -- none of the reasons why a text is no topic name
 pub record IsTopicText (text : List ℕ) : Type 0 where

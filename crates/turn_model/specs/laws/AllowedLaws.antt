@@ -11,10 +11,14 @@ use Rattle.turn_model.specs.Step.{Step}
 use Rattle.turn_model.specs.Worker.{Worker, Item, Answer, Answers, Accepts, Delivers, PendingRecord, sessions_of}
 use Rattle.turn_model.specs.Worker.{setting_of, connection_in, session_in}
 use Rattle.turn_model.specs.WorkerMoves.{WorkerMove, Asker, Ending, View, BeginCommit, Commit, Settle, Stored, Emit}
-use Rattle.turn_model.specs.WorkerMoves.{OfItem, OfPacket, OfResend, Bind, TakeOver, Unbind, record_of, begun_unless}
-use Rattle.turn_model.specs.WorkerMoves.{record_committed, record_settled, has_asked, stored_if, item_at, emitted_if}
-use Rattle.turn_model.specs.WorkerMoves.{answered_step, step_emitted, resent_for, resend_emitted, accepts_on}
-use Rattle.turn_model.specs.WorkerMoves.{bound_with, bound_answer, bound_if, session_at, may_settle, has_connect}
+use Rattle.turn_model.specs.WorkerMoves.{OfItem, OfPacket, OfResend, Bind, TakeOver, Unbind}
+use Rattle.turn_model.specs.Records.{record_of, begun_unless}
+use Rattle.turn_model.specs.WorkerMoves.{has_asked, stored_if, item_at, emitted_if}
+use Rattle.turn_model.specs.Records.{record_committed, record_settled}
+use Rattle.turn_model.specs.WorkerMoves.{answered_step, step_emitted, resent_for, resend_emitted}
+use Rattle.turn_model.specs.Records.{accepts_on}
+use Rattle.turn_model.specs.WorkerMoves.{bound_with, bound_answer, bound_if, has_connect}
+use Rattle.turn_model.specs.Records.{session_at, may_settle}
 use Rattle.turn_model.specs.WorkerMoves.{may_take_over, taken_over_if, unbound_if, unbound_from, worker_step}
 use Rattle.turn_model.specs.WorkerMoves.{worker_outs, worker_acks, emitted_outs, step_outs, resend_outs, close_outs}
 use Rattle.turn_model.specs.WorkerMoves.{takeover_outs, ending_outs, emitted_acks, step_acks}

@@ -4,7 +4,7 @@ use Rattle.mqtt_packet.specs.Packet.{PlainPacket}
 use Rattle.turn_model.specs.PlainConnection.{PlainConnection}
 use Rattle.turn_model.specs.Step.{Setting}
 use Rattle.turn_model.specs.PacketStep.{packet_step}
-use Rattle.turn_model.specs.WorkerMoves.{Stepped, stepped_by, stepped_all}
+use Rattle.turn_model.specs.Records.{Stepped, stepped_by, stepped_all}
 
 -- one more packet behind some
 abbrev pub stepped_on : Setting → PlainConnection → PlainPacket → Stepped → Stepped
