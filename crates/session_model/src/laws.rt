@@ -1,6 +1,7 @@
 ghost use Rattle.std.specs.Prelude.{◌≡◌, ◌≤◌, ◌+◌, ◌&&◌, ◌++◌, List, ℕ, Some, bytes_eq, slice_get, true, false};
 ghost use Rattle.topic_model.specs.Profile.{Profile};
-ghost use Rattle.session_model.specs.PlainSession.{PlainSession, Sessions, begun_session, complete_of, in_use, is_done, session_of};
+ghost use Rattle.session_model.specs.PlainSession.{PlainSession, Sessions, begun_session, complete_of, in_use, is_done};
+ghost use Rattle.session_model.specs.PlainSession.{session_of};
 ghost use Rattle.session_model.specs.declared.entry.Entry.{Entry};
 ghost use Rattle.session_model.specs.Entry.{id_of};
 ghost use Rattle.session_model.specs.Unfinished.{unfinished};

@@ -8,8 +8,8 @@
 //!
 //! Read `specs/PlainSession.antt` and `specs/Entry.antt` first, then `specs/Unfinished.antt`, `specs/Change.antt`,
 //! `specs/Acting.antt` and `specs/FitsSession.antt`. `specs/Ends.antt` says when a session is over and what a restart
-//! owes, `specs/IssuedPrefix.antt` what a subscription was issued, `specs/Orders.antt` when the numbers of a session are
-//! in order, and `specs/Examples.antt` has what computes. The laws stand in `src/laws.rt`.
+//! owes, `specs/IssuedPrefix.antt` what a subscription was issued, `specs/Orders.antt` when the numbers of a session
+//! are in order, and `specs/Examples.antt` has what computes. The laws stand in `src/laws.rt`.
 #![tactic(auto)]
 
 mod entry;

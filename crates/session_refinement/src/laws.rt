@@ -21,11 +21,13 @@ ghost use Rattle.turn_model.specs.PlainConnection.{PlainConnection};
 ghost use Rattle.turn_model.specs.Pumping.{AreReady};
 ghost use Rattle.session_refinement.specs.ReadAgain.{again_from, kept_limit};
 ghost use Rattle.session_refinement.specs.PlainChange.{plain_effect, plain_change};
-ghost use Rattle.session_refinement.specs.StandFor.{AreReadAgain, Group, Keeps, SessionsKeep, SessionsStandFor, StandsFor};
-ghost use Rattle.session_refinement.specs.Issuing.{AreIssuedAs, AreLists, AreOver, HaveGrown, IsIssuedAs, IsOver, IsReadyFor, is_no_batch, new_groups};
+ghost use Rattle.session_refinement.specs.StandFor.{AreReadAgain, Group, Keeps, SessionsKeep, SessionsStandFor};
+ghost use Rattle.session_refinement.specs.StandFor.{StandsFor};
+ghost use Rattle.session_refinement.specs.Issuing.{AreIssuedAs, AreLists, AreOver, HaveGrown, IsIssuedAs, IsOver};
+ghost use Rattle.session_refinement.specs.Issuing.{IsReadyFor, is_no_batch, new_groups};
 
-/// A law: a batch is read again as it was issued. Where its messages had expired alike, they are issued as they are read
-/// again with the batch's limit, which is then 0, and else the client's.
+/// A law: a batch is read again as it was issued. Where its messages had expired alike, they are issued as they are
+/// read again with the batch's limit, which is then 0, and else the client's.
 pub fn batches_are_read_again_as_issued()
     ensures { (now : ℕ) (r : Reader) (expired : Bool) (next1 next2 : ℕ) (ms : List StoredMessage) →
         ((m : StoredMessage) → HasPlace ms m → has_expired now m ≡ expired) →
@@ -45,8 +47,8 @@ pub fn a_session_begins_as_a_plain_one()
 {}
 
 /// A law: a session that keeps what it needs of a plain one goes on to do so through each change that suits the plain
-/// one, a batch with the entries that it is issued as: its groups are then one more. What is kept after the change is what
-/// the plain session keeps, so what went is never needed again. The same holds of the sessions of a worker.
+/// one, a batch with the entries that it is issued as: its groups are then one more. What is kept after the change is
+/// what the plain session keeps, so what went is never needed again. The same holds of the sessions of a worker.
 pub fn changes_are_kept()
     ensures changed { (k : KeptSession) (m : PlainSession) (groups : List Group)
         (entries : List Entry) (effect : Effect) → Keeps k m groups →
@@ -60,9 +62,9 @@ pub fn changes_are_kept()
         SessionsKeep (kept_acted c kept) (act_one plain (plain_change entries c)) }
 {}
 
-/// A law: a kept session that stands for a plain one over lists in order goes on to do so through each change that suits
-/// the plain one, where a new subscription starts at the lists' ends and a batch may be issued over them. The same holds
-/// of the sessions of a worker, which then keep what they need.
+/// A law: a kept session that stands for a plain one over lists in order goes on to do so through each change that
+/// suits the plain one, where a new subscription starts at the lists' ends and a batch may be issued over them. The
+/// same holds of the sessions of a worker, which then keep what they need.
 pub fn changes_go_on_to_stand()
     ensures changed { (profile : Profile) (lists : List ShardList) (k : KeptSession)
         (m : PlainSession) (entries : List Entry) (effect : Effect) →
@@ -89,17 +91,17 @@ pub fn standing_stays_as_lists_grow()
         AreReadAgain profile later m h.groups → StandsFor profile later k m }
 {}
 
-/// A law: where a kept session stands for a plain one over lists in order, each pair of a live subscription and a shard is
-/// ready for a pump of whatever connection, so that what is pumped may be issued.
+/// A law: where a kept session stands for a plain one over lists in order, each pair of a live subscription and a shard
+/// is ready for a pump of whatever connection, so that what is pumped may be issued.
 pub fn what_stands_is_ready_to_be_pumped()
     ensures { (profile : Profile) (lists : List ShardList) (k : KeptSession) (m : PlainSession)
         (connection : PlainConnection) (now : ℕ) → AreLists lists →
         StandsFor profile lists k m → AreReady profile now m connection lists }
 {}
 
-/// A law: kept sessions tell which changes fit the plain ones. A change but a batch suits, and fits, the one exactly where
-/// it does the other, and so do the limits. A batch that suits, or fits, the plain one does so with the kept one, where the
-/// worker is ready for it.
+/// A law: kept sessions tell which changes fit the plain ones. A change but a batch suits, and fits, the one exactly
+/// where it does the other, and so do the limits. A batch that suits, or fits, the plain one does so with the kept one,
+/// where the worker is ready for it.
 pub fn kept_sessions_tell_what_fits()
     ensures suits { (k : KeptSession) (m : PlainSession) (groups : List Group)
         (entries : List Entry) (effect : Effect) → is_no_batch effect ≡ true → Keeps k m groups →

@@ -1,15 +1,15 @@
-//! How kept sessions stand for plain ones: a session of a worker keeps tracks, batches and sweeps, and never the list of
-//! all that it was issued, and still tells all that is needed of it.
+//! How kept sessions stand for plain ones: a session of a worker keeps tracks, batches and sweeps, and never the list
+//! of all that it was issued, and still tells all that is needed of it.
 //!
 //! Nothing here runs. A session with two batches, once the only number of the second is done:
 //!
 //!     one_finished.kept.batches ≡ first ∷ []
 //!     positions_of one_finished.kept 0 ≡ 0 ∷ 5 ∷ 5 ∷ 0 ∷ 2 ∷ []
 //!
-//! Read `specs/StandFor.antt` first: `Keeps`, what a session keeps of a plain one, `StandsFor`, the same over the lists of
-//! the shards, and `SessionsStandFor` for the sessions of a worker. `specs/ReadAgain.antt` says what a batch gives when it
-//! is read again, `specs/PlainChange.antt` which plain change a change stands for, and `specs/Issuing.antt` what is asked
-//! of a batch. `specs/Examples.antt` has what computes. The laws stand in `src/laws.rt`.
+//! Read `specs/StandFor.antt` first: `Keeps`, what a session keeps of a plain one, `StandsFor`, the same over the lists
+//! of the shards, and `SessionsStandFor` for the sessions of a worker. `specs/ReadAgain.antt` says what a batch gives
+//! when it is read again, `specs/PlainChange.antt` which plain change a change stands for, and `specs/Issuing.antt`
+//! what is asked of a batch. `specs/Examples.antt` has what computes. The laws stand in `src/laws.rt`.
 #![tactic(auto)]
 
 mod laws;

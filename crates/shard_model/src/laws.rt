@@ -1,10 +1,13 @@
-ghost use Rattle.std.specs.Prelude.{◌≡◌, ◌≤◌, ◌<◌, ◌++◌, ◌∷◌, Bool, true, false, List, ℕ, [], Some, None, map, take, slice_get};
+ghost use Rattle.std.specs.Prelude.{◌≡◌, ◌≤◌, ◌<◌, ◌++◌, ◌∷◌, Bool, true, false, List, ℕ, [], Some, None, map, take};
+ghost use Rattle.std.specs.Prelude.{slice_get};
 ghost use Rattle.topic_model.specs.StoredMessage.{StoredMessage};
-ghost use Rattle.shard_model.specs.LearnedPath.{Path, Tokens, patterns_of, patterns_after, learned_path, path_from, number_of};
+ghost use Rattle.shard_model.specs.LearnedPath.{Path, Tokens, patterns_of, patterns_after, learned_path, path_from};
+ghost use Rattle.shard_model.specs.LearnedPath.{number_of};
 ghost use Rattle.shard_model.specs.Streams.{HeldGeneration, held_generations, in_stream, streams_from, topics_of};
 ghost use Rattle.shard_model.specs.laws.NumberLaws.{HasNumber};
 ghost use Rattle.topic_model.specs.Profile.{Config, Profile};
-ghost use Rattle.shard_model.specs.ShardList.{Cut, ShardList, floor_of, next_of, message_at, newest, oldest_of, opening_list};
+ghost use Rattle.shard_model.specs.ShardList.{Cut, ShardList, floor_of, next_of, message_at, newest, oldest_of};
+ghost use Rattle.shard_model.specs.ShardList.{opening_list};
 ghost use Rattle.shard_model.specs.Storing.{Op, store};
 ghost use Rattle.topic_model.specs.Places.{HasPlace};
 ghost use Rattle.shard_model.specs.Growing.{HasGrown};
@@ -15,7 +18,8 @@ ghost use Rattle.shard_model.specs.Wanted.{wanted};
 ghost use Rattle.shard_model.specs.NextRun.{IsNextRun};
 ghost use Rattle.shard_model.specs.SweepOrder.{Run, next_run, is_in_order, is_issued_by};
 ghost use Rattle.shard_model.specs.declared.sweep.Sweep.{Sweep};
-ghost use Rattle.shard_model.specs.ShardMoves.{Shard, ShardMove, Nothing, Show, pends_nothing, if_drop, opening_shard, shard_step, shard_run, crashed_shard};
+ghost use Rattle.shard_model.specs.ShardMoves.{Shard, ShardMove, Nothing, Show, pends_nothing, if_drop, opening_shard};
+ghost use Rattle.shard_model.specs.ShardMoves.{shard_step, shard_run, crashed_shard};
 ghost use Rattle.shard_model.specs.Shards.{IsShard, is_show};
 
 /// A law: the patterns that are carried along from topic to topic are the distinct paths of the whole list, and give
@@ -173,11 +177,11 @@ pub fn crash_takes_nothing()
         (crashed_shard config goes_in s).shown ≡ (crashed_shard config goes_in s).stored }
 {}
 
-/// A law: the next run of a sweep in order, over a list in order, skips nothing. Its messages rise by their offsets, each
-/// is wanted and not issued yet, and each earlier wanted message of its topic was issued or stands before it; they are as
-/// many as the limit at most, and the sweep behind each of them is in order and counts what the sweep did and those up
-/// to this one. Each front of a run is the run of a lower limit. None comes exactly where all that is wanted was issued,
-/// or the limit is 0.
+/// A law: the next run of a sweep in order, over a list in order, skips nothing. Its messages rise by their offsets,
+/// each is wanted and not issued yet, and each earlier wanted message of its topic was issued or stands before it; they
+/// are as many as the limit at most, and the sweep behind each of them is in order and counts what the sweep did and
+/// those up to this one. Each front of a run is the run of a lower limit. None comes exactly where all that is wanted
+/// was issued, or the limit is 0.
 pub fn the_next_run_is_in_order()
     ensures next { (profile : Profile) (wish : Tokens) (start : ℕ) (list : ShardList)
         (sweep : Sweep) (limit : ℕ) (run : Run) → IsList list →
@@ -204,8 +208,8 @@ pub fn the_next_run_is_in_order()
         (sweep : Sweep) → next_run profile wish start list sweep 0 ≡ None }
 {}
 
-/// A law: as a list grows, a sweep in order stays in order; of each message that was there and still is it counts what it
-/// counted, and it counts none of the new ones.
+/// A law: as a list grows, a sweep in order stays in order; of each message that was there and still is it counts what
+/// it counted, and it counts none of the new ones.
 pub fn sweeps_stay()
     ensures order { (profile : Profile) (list later : ShardList) (start : ℕ) (sweep : Sweep) →
         IsList list → IsList later → HasGrown list later →

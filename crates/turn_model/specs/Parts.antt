@@ -15,7 +15,8 @@ use Rattle.mqtt_frame.specs.PlainFramer.{opening}
 use Rattle.mqtt_packet.specs.Packet.{Publish, PublishFields}
 use Rattle.turn_model.specs.PlainConnection.{PlainConnection, is_among, rest_of}
 use Rattle.turn_model.specs.Pump.{pump_of}
-use Rattle.turn_model.specs.Resend.{Resent, resend_of, Again, Publishes, again, packets_with, entries_with, pass_changes}
+use Rattle.turn_model.specs.Resend.{Resent, resend_of, Again, Publishes, again, packets_with, entries_with}
+use Rattle.turn_model.specs.Resend.{pass_changes}
 use Rattle.turn_model.specs.Resend.{issued_packets}
 use Rattle.turn_model.specs.Step.{Outcome, Kept, IsFull, AwaitsTooMany, Faulted, Close, Step, is_nil}
 use Rattle.turn_model.specs.PacketStep.{tick_step}

@@ -1,5 +1,5 @@
--- The reasons that the broker gives (MQTT 2.4), and the numbers of the rules whose breach the turn finds; those that the reader of
--- packets finds stand with it.
+-- The reasons that the broker gives (MQTT 2.4), and the numbers of the rules whose breach the turn finds; those that
+-- the reader of packets finds stand with it.
 use Rattle.std.specs.Prelude.{ℕ}
 
 abbrev pub success : ℕ

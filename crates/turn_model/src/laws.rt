@@ -24,8 +24,8 @@ pub fn a_packet_keeps_to_its_session()
         ≡ session_of other s.sessions }
 {}
 
-/// A law: what packets of a record change is carried from packet to packet, and needn't be worked out from the first one
-/// again.
+/// A law: what packets of a record change is carried from packet to packet, and needn't be worked out from the first
+/// one again.
 pub fn steps_are_carried()
     ensures { (s : Setting) (k : PlainConnection) (packets : List PlainPacket)
         (packet : PlainPacket) (st : Stepped) →

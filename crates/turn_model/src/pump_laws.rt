@@ -28,9 +28,9 @@ pub fn a_batch_may_be_issued()
         CountsIssued profile (issued_to i (batch_of profile i run)) (batch_of profile i run).sweep }
 {}
 
-/// A law: what a pump of a connection issues over the lists of the shards may be issued, once nothing is left to be sent
-/// again, and where each list and each sweep is in order and each sweep counts what was issued. Where it issues nothing
-/// though it may, all that is wanted was issued.
+/// A law: what a pump of a connection issues over the lists of the shards may be issued, once nothing is left to be
+/// sent again, and where each list and each sweep is in order and each sweep counts what was issued. Where it issues
+/// nothing though it may, all that is wanted was issued.
 pub fn what_is_pumped_may_be_issued()
     ensures issued { (profile : Profile) (now : ℕ) (m : PlainSession) (k : PlainConnection)
         (lists : List ShardList) (b : Issues) → rest_of m k ≡ [] →
@@ -41,8 +41,8 @@ pub fn what_is_pumped_may_be_issued()
         pump_of profile now m k lists ≡ None → AllIssued now m k lists }
 {}
 
-/// A law: a sweep goes on to count what was issued: as the list of its shard grows, where nothing was issued of what the
-/// list didn't have; and as a batch of another subscription or another shard is issued.
+/// A law: a sweep goes on to count what was issued: as the list of its shard grows, where nothing was issued of what
+/// the list didn't have; and as a batch of another subscription or another shard is issued.
 pub fn counting_stays()
     ensures grown { (profile : Profile) (i : Issuing) (later : ShardList) (sweep : Sweep) →
         IsList i.list → IsList later → HasGrown i.list later →
