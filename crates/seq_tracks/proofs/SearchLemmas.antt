@@ -12,7 +12,7 @@ use Rattle.std.proofs.lemmas.List.Kept.{AllPairs-from_increasing}
 use Rattle.std.proofs.lemmas.List.Sorted.{searched}
 use Rattle.std.proofs.lemmas.Option.{slice_get_within, get_or_from_slice_get}
 use Rattle.session_model.specs.Acting.{numbers_from}
-use Rattle.session_model.specs.laws.DoneLaws.{has}
+use Rattle.session_model.specs.PlainSession.{has}
 use Rattle.seq_tracks.specs.InOrder.{ascend}
 use Rattle.seq_tracks.specs.ListLaws.{ascend_parts, ascend_cons, from-push}
 

@@ -6,7 +6,7 @@ use Rattle.std.proofs.lemmas.Bool.Decides.{nat_tests}
 use Rattle.std.proofs.lemmas.List.{length-append, take-append-drop}
 use Rattle.std.proofs.lemmas.List.Folds.{list_any-append}
 use Rattle.session_model.specs.Acting.{numbers_from}
-use Rattle.session_model.specs.laws.DoneLaws.{has}
+use Rattle.session_model.specs.PlainSession.{has}
 use Rattle.seq_tracks.specs.PlainTracks.{PlainTracks, is_done, is_released}
 use Rattle.seq_tracks.specs.InOrder.{InOrder, ascend}
 use Rattle.seq_tracks.specs.ListLaws.{length-from, has-from, ascend_parts, ascend_cons, ascend_not_below, ascend_short, ascend_from, ascend-append}

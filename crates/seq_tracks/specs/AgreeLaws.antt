@@ -15,7 +15,8 @@ use Rattle.session_model.specs.Change.{Acked, Received, Done, Passed, Passes}
 use Rattle.session_model.specs.Acting.{numbers_from}
 use Rattle.session_model.specs.FitsSession.{is_between, may_be_passed, suits}
 use Rattle.session_model.specs.Orders.{HasNumbers}
-use Rattle.session_model.specs.laws.DoneLaws.{has, complete_is_done}
+use Rattle.session_model.specs.laws.DoneLaws.{complete_is_done}
+use Rattle.session_model.specs.PlainSession.{has}
 use Rattle.session_model.specs.laws.TrackLaws.{numbers_by, by_number1, by_number2}
 use Rattle.seq_tracks.specs.declared.marks.TheConstants.{WIDEST_WINDOW}
 use Rattle.seq_tracks.specs.PlainTracks.{PlainTracks, is_done, is_released, is_unfinished, mark_of, last_of, in_use, room, has_room_for}

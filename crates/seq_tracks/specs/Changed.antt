@@ -2,7 +2,7 @@
 use Rattle.std.specs.Prelude.{ℕ, ◌+◌, ◌-◌, ◌<◌, ◌≤◌, ◌≡◌, true, false, ◌==◌, if◌then◌else◌, List, [], ◌∷◌, ◌++◌, filter, length}
 use Rattle.session_model.specs.PlainSession.{done_from}
 use Rattle.session_model.specs.Acting.{numbers_from}
-use Rattle.session_model.specs.laws.DoneLaws.{has}
+use Rattle.session_model.specs.PlainSession.{has}
 use Rattle.seq_tracks.specs.PlainTracks.{PlainTracks}
 use Rattle.seq_tracks.specs.InOrder.{ascend}
 

@@ -2,7 +2,7 @@
 use Rattle.std.proofs.Common.{◌≡◌, ℕ, zero, suc, ◌+◌, ◌-◌, ◌≤◌, ◌<◌, Bool, true, false, if◌then◌else◌, List, ◌++◌, length, filter, true≢false, refl, sym, ap, ◌∙◌, arith}
 use Rattle.session_model.specs.PlainSession.{done_from}
 use Rattle.session_model.specs.Acting.{numbers_from}
-use Rattle.session_model.specs.laws.DoneLaws.{has}
+use Rattle.session_model.specs.PlainSession.{has}
 use Rattle.seq_tracks.specs.PlainTracks.{PlainTracks}
 use Rattle.seq_tracks.specs.InOrder.{ascend}
 use Rattle.seq_tracks.specs.Changed.{IsDoneUpTo, complete_with, with_these, with_done}

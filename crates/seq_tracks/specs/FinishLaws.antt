@@ -3,7 +3,7 @@ use Rattle.std.proofs.Common.{◌≡◌, ℕ, ◌+◌, ◌-◌, ◌≤◌, ◌<�
 use Rattle.std.proofs.lemmas.Bool.{lt-leb, or_from}
 use Rattle.std.proofs.lemmas.Bool.Decides.{nat_tests}
 use Rattle.session_model.specs.Acting.{numbers_from}
-use Rattle.session_model.specs.laws.DoneLaws.{has}
+use Rattle.session_model.specs.PlainSession.{has}
 use Rattle.seq_tracks.specs.PlainTracks.{PlainTracks, is_done}
 use Rattle.seq_tracks.specs.InOrder.{InOrder}
 use Rattle.seq_tracks.specs.Changed.{with_done, received_tracks, done_tracks, passed_tracks}

@@ -4,7 +4,7 @@ use Rattle.std.proofs.lemmas.Bool.{and_parts, or_parts, or_cases, or_left, or_ri
 use Rattle.std.proofs.lemmas.Bool.Decides.{nat_tests}
 use Rattle.std.proofs.lemmas.Option.{none-some, same_Some}
 use Rattle.session_model.specs.Acting.{numbers_from}
-use Rattle.session_model.specs.laws.DoneLaws.{has}
+use Rattle.session_model.specs.PlainSession.{has}
 use Rattle.session_model.specs.laws.IdentifierLaws.{id1_once, id2_once, never_meet}
 use Rattle.seq_tracks.specs.declared.marks.TheConstants.{WIDEST_WINDOW}
 use Rattle.seq_tracks.specs.PlainTracks.{PlainTracks, is_done, is_unfinished1, is_unfinished2, is_unfinished, in_use}

@@ -4,7 +4,7 @@ use Rattle.std.proofs.lemmas.Bool.{and_parts, cases_lt, or_cases, leb-true, ltb-
 use Rattle.std.proofs.lemmas.List.Folds.{list_any-append}
 use Rattle.session_model.specs.PlainSession.{left_of}
 use Rattle.session_model.specs.Acting.{numbers_from}
-use Rattle.session_model.specs.laws.DoneLaws.{has}
+use Rattle.session_model.specs.PlainSession.{has}
 use Rattle.seq_tracks.specs.PlainTracks.{PlainTracks, has_room_for, in_use}
 use Rattle.seq_tracks.specs.InOrder.{InOrder, ascend}
 use Rattle.seq_tracks.specs.ListLaws.{ascend_between, ascend_cons, has-from}

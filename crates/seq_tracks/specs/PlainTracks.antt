@@ -1,7 +1,7 @@
 -- The two tracks of a session: which numbers they have given, and how far the client has acknowledged these.
 use Rattle.std.specs.Prelude.{ℕ, ◌+◌, ◌-◌, Bool, false, ◌&&◌, ◌||◌, not, ◌==◌, nat_le, nat_lt, min, if◌then◌else◌, List, []}
 use Rattle.session_model.specs.PlainSession.{left_of}
-use Rattle.session_model.specs.laws.DoneLaws.{has}
+use Rattle.session_model.specs.PlainSession.{has}
 use Rattle.seq_tracks.specs.declared.marks.TheConstants.{WIDEST_WINDOW}
 
 -- Each track numbers its deliveries from 1, and has the last number that it gave. Track 1 is that of QoS 1: all up to `acked` are

@@ -5,7 +5,8 @@ use Rattle.std.proofs.lemmas.Bool.Decides.{nat_tests}
 use Rattle.std.proofs.lemmas.List.Folds.{list_any-append}
 use Rattle.session_model.specs.PlainSession.{PlainSession, begun_session, complete_of, done_from}
 use Rattle.session_model.specs.Acting.{numbers_from}
-use Rattle.session_model.specs.laws.DoneLaws.{has, complete_is_done, next_is_not}
+use Rattle.session_model.specs.laws.DoneLaws.{complete_is_done, next_is_not}
+use Rattle.session_model.specs.PlainSession.{has}
 use Rattle.seq_tracks.specs.PlainTracks.{PlainTracks, is_done}
 use Rattle.seq_tracks.specs.Changed.{complete_with, those_between, with_done}
 use Rattle.seq_tracks.specs.ListLaws.{has-from, has-filter}

@@ -13,7 +13,8 @@ use Rattle.session_model.specs.Acting.{numbers_from, changed_session}
 use Rattle.session_model.specs.FitsSession.{suits}
 use Rattle.session_model.specs.Orders.{HasNumbers}
 use Rattle.session_model.specs.laws.OrderLaws.{acting_in_order}
-use Rattle.session_model.specs.laws.DoneLaws.{has, complete_is_done, next_is_not}
+use Rattle.session_model.specs.laws.DoneLaws.{complete_is_done, next_is_not}
+use Rattle.session_model.specs.PlainSession.{has}
 use Rattle.session_model.specs.laws.TrackLaws.{numbers1-append, numbers2-append}
 use Rattle.seq_tracks.specs.PlainTracks.{PlainTracks, no_tracks, is_done}
 use Rattle.seq_tracks.specs.Changed.{complete_with, those_between, with_done, acked_tracks}

@@ -8,7 +8,7 @@ ghost use Rattle.session_model.specs.Change.{Acked, Done, Effect, Passed, Passes
 ghost use Rattle.session_model.specs.Acting.{changed_session};
 ghost use Rattle.session_model.specs.FitsSession.{is_between, suits};
 ghost use Rattle.session_model.specs.Orders.{HasNumbers};
-ghost use Rattle.session_model.specs.laws.DoneLaws.{has};
+ghost use Rattle.session_model.specs.PlainSession.{has};
 ghost use Rattle.seq_tracks.specs.PlainTracks.{PlainTracks, has_room_for, is_done, is_released, is_unfinished, last_of, mark_of, no_tracks, room, in_use};
 ghost use Rattle.seq_tracks.specs.InOrder.{InOrder, are_in_order};
 ghost use Rattle.seq_tracks.specs.Identifiers.{id_of, unfinished_on};

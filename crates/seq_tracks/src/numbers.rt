@@ -2,7 +2,7 @@
 ghost use Rattle.std.specs.Prelude.{◌≡◌, ◌≢◌, ◌+◌, ◌<◌, ◌≤◌, ℕ, length, take, slice_get, slice_index, Some};
 ghost use Rattle.std.specs.List.Sorted.{IsStrictlyIncreasing};
 ghost use Rattle.session_model.specs.Acting.{numbers_from};
-ghost use Rattle.session_model.specs.laws.DoneLaws.{has};
+ghost use Rattle.session_model.specs.PlainSession.{has};
 ghost use Rattle.seq_tracks.specs.InOrder.{ascend};
 
 // Whether these ascend, all above one number and none past another.

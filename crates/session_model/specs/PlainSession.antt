@@ -113,3 +113,7 @@ no_sessions = record { list = []; next = 1 }
 -- the session of this client, none where it has none
 abbrev pub session_of : List ℕ → Sessions → Option PlainSession
 session_of client sessions = find (λ (m : PlainSession). bytes_eq m.client client) sessions.list
+
+-- the number is one of these
+abbrev pub has : List ℕ → ℕ → Bool
+has done number = list_any (λ (d : ℕ). d == number) done

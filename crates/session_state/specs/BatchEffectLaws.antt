@@ -8,7 +8,7 @@ use Rattle.std.proofs.lemmas.List.Sums.{sum_by_push, sum_by-cons}
 use Rattle.std.proofs.lemmas.Option.{none-some, same_Some}
 use Rattle.session_model.specs.declared.entry.Version.{Version}
 use Rattle.session_model.specs.Acting.{changed_if}
-use Rattle.session_model.specs.laws.DoneLaws.{has}
+use Rattle.session_model.specs.PlainSession.{has}
 use Rattle.session_model.specs.FitsSession.{is_between}
 use Rattle.seq_tracks.specs.PlainTracks.{has_room_for, is_done, last_of, mark_of}
 use Rattle.seq_tracks.specs.InOrder.{InOrder}

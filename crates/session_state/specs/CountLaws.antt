@@ -6,7 +6,7 @@ use Rattle.std.proofs.lemmas.Bool.Decides.{nat_tests}
 use Rattle.std.proofs.lemmas.List.{length-map}
 use Rattle.std.proofs.lemmas.List.Folds.{list_any-append}
 use Rattle.topic_model.specs.Profile.{whole}
-use Rattle.session_model.specs.laws.DoneLaws.{has}
+use Rattle.session_model.specs.PlainSession.{has}
 use Rattle.session_model.specs.declared.entry.Version.{Version}
 use Rattle.seq_tracks.specs.PlainTracks.{in_use}
 use Rattle.session_state.specs.declared.batch.Batch.{Batch}

@@ -4,7 +4,7 @@ use Rattle.std.specs.List.{list_all, list_any}
 use Rattle.topic_model.specs.Profile.{whole}
 use Rattle.session_model.specs.declared.entry.Version.{Version}
 use Rattle.session_model.specs.Acting.{numbers_from}
-use Rattle.session_model.specs.laws.DoneLaws.{has}
+use Rattle.session_model.specs.PlainSession.{has}
 use Rattle.seq_tracks.specs.PlainTracks.{PlainTracks, is_unfinished1, is_unfinished2}
 use Rattle.session_state.specs.declared.batch.Batch.{Batch}
 use Rattle.session_state.specs.KeptSub.{KeptSub}

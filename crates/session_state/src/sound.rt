@@ -3,7 +3,7 @@ ghost use Rattle.std.specs.Prelude.{◌≡◌, ◌≤◌, ◌==◌, ◌+◌, ◌
 ghost use Rattle.std.specs.List.{list_all, list_any};
 ghost use Rattle.topic_model.specs.Profile.{whole};
 ghost use Rattle.session_model.specs.Acting.{numbers_from};
-ghost use Rattle.session_model.specs.laws.DoneLaws.{has};
+ghost use Rattle.session_model.specs.PlainSession.{has};
 ghost use Rattle.session_state.specs.declared.batch.Batch.{Batch};
 ghost use Rattle.seq_tracks.specs.PlainTracks.{is_unfinished1, is_unfinished2};
 ghost use Rattle.session_model.specs.declared.entry.Version.{Version};

@@ -1,6 +1,6 @@
 -- What a generation learns of its topics: the path of each topic from those before it, and the patterns that its topics
 -- have.
-use Rattle.std.specs.Prelude.{ℕ, suc, ◌+◌, Bool, true, false, ◌&&◌, nat_le, if◌then◌else◌, List, [], ◌∷◌, ◌++◌, Option}
+use Rattle.std.specs.Prelude.{ℕ, ◌≡◌, suc, ◌+◌, Bool, true, false, ◌&&◌, nat_le, if◌then◌else◌, List, [], ◌∷◌, ◌++◌, Option}
 use Rattle.std.specs.Prelude.{Some, None}
 use Rattle.std.specs.List.{list_any}
 use Rattle.std.specs.Str.{bytes_eq}
@@ -143,3 +143,6 @@ varying [] tokens = []
 varying (edge ∷ path) [] = []
 varying (Token x ∷ path) (token ∷ tokens) = varying path tokens
 varying (Plus ∷ path) (token ∷ tokens) = token ∷ varying path tokens
+
+abbrev pub HasNumber : Path → List Path → Type 0
+HasNumber path patterns = (n : ℕ) × (number_of path patterns ≡ Some n)

@@ -1,5 +1,5 @@
 -- A text cut into levels at each `/`, and put together again (MQTT 4.7.1.1).
-use Rattle.std.specs.Prelude.{ℕ, List, [], ◌∷◌, ◌++◌, ◌==◌, if◌then◌else◌}
+use Rattle.std.specs.Prelude.{ℕ, Bool, List, [], ◌∷◌, ◌++◌, ◌==◌, if◌then◌else◌}
 
 -- one more element at the front of the first piece
 abbrev pub onto_first : ℕ → List (List ℕ) → List (List ℕ)
@@ -26,3 +26,7 @@ levels_of text = pieces 0x2F text
 
 abbrev pub text_of_levels : List (List ℕ) → List ℕ
 text_of_levels levels = joined_by 0x2F levels
+
+-- a separator ends the first piece
+abbrev pub parts : ℕ → ℕ → Bool
+parts separator b = b == separator

@@ -1,6 +1,6 @@
 -- Which texts are topic names and topic filters, and why others aren't (MQTT 4.7).
-use Rattle.std.specs.Prelude.{ℕ, Bool, true, false, ◌&&◌, ◌||◌, not, ◌==◌, nat_lt, if◌then◌else◌, List, [], ◌∷◌, length}
-use Rattle.std.specs.Prelude.{codes, Option, Some, None}
+use Rattle.std.specs.Prelude.{ℕ, ◌≡◌, ◌≤◌, Bool, true, false, ◌&&◌, ◌||◌, not, ◌==◌, nat_lt, if◌then◌else◌, List, [], ◌∷◌}
+use Rattle.std.specs.Prelude.{length, codes, Option, Some, None}
 use Rattle.std.specs.List.{list_any}
 use Rattle.topic_model.specs.declared.refused.TopicRefused.{TopicRefused}
 use Rattle.topic_model.specs.declared.refused.TopicRefused.TheVariants as Topic
@@ -67,3 +67,19 @@ begins_text (b ∷ bytes) (c ∷ text) = (b == c) && begins_text bytes text
 -- whether a filter asks for a shared subscription (MQTT 4.8.2)
 abbrev pub asks_to_share : List ℕ → Bool
 asks_to_share text = begins_text (codes "$share/") text
+
+-- none of the reasons why a text is no topic name
+pub record IsTopicText (text : List ℕ) : Type 0 where
+  pub not_empty : is_empty text ≡ false
+  pub no_zero : has 0x00 text ≡ false
+  pub no_wildcard : has_wildcard text ≡ false
+  pub few_levels : length (levels_of text) ≤ most_levels
+
+-- none of the reasons why a text is no filter
+pub record IsFilterText (text : List ℕ) : Type 0 where
+  pub not_empty : is_empty text ≡ false
+  pub no_zero : has 0x00 text ≡ false
+  pub short : length text ≤ most_filter
+  pub few_levels : length (levels_of text) ≤ most_levels
+  pub plus_alone : list_any is_bad_plus (levels_of text) ≡ false
+  pub hash_alone_and_last : has_bad_hash (levels_of text) ≡ false

@@ -2,7 +2,7 @@ ghost use Rattle.std.specs.Prelude.{◌≡◌, ℕ, List, None};
 ghost use Rattle.topic_model.specs.Levels.{levels_of, text_of_levels};
 ghost use Rattle.topic_model.specs.Routing.{hashed_shard, hashed_worker, shard_of, worker_of};
 ghost use Rattle.topic_model.specs.Texts.{topic_refusal, filter_refusal};
-ghost use Rattle.topic_model.specs.laws.TextsLaws.{IsTopicText, IsFilterText};
+ghost use Rattle.topic_model.specs.Texts.{IsTopicText, IsFilterText};
 
 /// A law: a client goes where the hash of its identifier says, also where that isn't computed, as there is one shard or
 /// one worker.

@@ -3,7 +3,8 @@ use Rattle.std.proofs.Common.{◌≡◌, ℕ, ◌<◌, Bool, true, false, not, L
 use Rattle.std.specs.Option.{is_some}
 use Rattle.std.specs.List.{position_or_len, before_first, after_first}
 use Rattle.topic_model.specs.Levels.{levels_of}
-use Rattle.topic_model.specs.laws.LevelsLaws.{parts, pieces_at_first, some_piece}
+use Rattle.topic_model.specs.laws.LevelsLaws.{pieces_at_first, some_piece}
+use Rattle.topic_model.specs.Levels.{parts}
 use Rattle.topic_model.specs.Matching.{is_last}
 use Rattle.topic_name.specs.LevelsLeft.{levels_of_rest}
 

@@ -8,7 +8,8 @@ use Rattle.std.proofs.lemmas.Slice.Eq.{bytes_eq-Decides}
 use Rattle.topic_model.specs.declared.refused.FilterRefused.{FilterRefused}
 use Rattle.topic_model.specs.declared.refused.FilterRefused.TheVariants.{Empty, Zero, TooLong, TooManyLevels, BadPlus, BadHash, Memory}
 use Rattle.topic_model.specs.Levels.{levels_of, text_of_levels}
-use Rattle.topic_model.specs.laws.LevelsLaws.{parts, length-pieces, text_of-levels_of}
+use Rattle.topic_model.specs.laws.LevelsLaws.{length-pieces, text_of-levels_of}
+use Rattle.topic_model.specs.Levels.{parts}
 use Rattle.topic_model.specs.Texts.{most_filter, has_many_levels, filter_refusal, is_empty, has, is_bad_plus, has_bad_hash}
 
 -- texts are equal as the texts of their levels are

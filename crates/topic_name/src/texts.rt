@@ -1,7 +1,7 @@
 // Which texts are topic names and filters, and why others are not (MQTT 4.7).
 ghost use Rattle.std.specs.Prelude.{◌≡◌, count_by};
 ghost use Rattle.std.specs.List.{list_any};
-ghost use Rattle.topic_model.specs.laws.LevelsLaws.{parts};
+ghost use Rattle.topic_model.specs.Levels.{parts};
 ghost use Rattle.topic_model.specs.Texts.{topic_refusal, filter_refusal, has, has_wildcard, has_many_levels, is_bad_plus, has_bad_hash};
 ghost use Rattle.topic_name.specs.LevelsLeft.{levels_left};
 

@@ -19,7 +19,7 @@ use Rattle.turn_model.specs.PublishStep.{publish_case, is_asking, publish_group,
 use Rattle.turn_model.specs.ConnectStep.{connect_refusal, connect_step}
 use Rattle.turn_model.specs.PacketStep.{packet_step, interval_of}
 use Rattle.turn_model.specs.Worker.{connection_in, session_in, are_sendable}
-use Rattle.turn_model.specs.laws.CarriedLaws.{stepped_on}
+use Rattle.turn_model.specs.Records.{stepped_on}
 use Rattle.turn_model.specs.WorkerMoves.{Emit, OfPacket, Bind, TakeOver, Ending, with_reason}
 use Rattle.turn_model.specs.Records.{OfPackets, OfConnect}
 use Rattle.turn_model.specs.WorkerMoves.{silently}

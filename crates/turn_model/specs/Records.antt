@@ -269,3 +269,7 @@ may_settle w (Some p) = not (is_item_bound w p.item)
 abbrev pub record_settled : Bool → Bool → ℕ → Worker → Worker
 record_settled true goes_in now w = record_resolved goes_in now w.pending w
 record_settled false goes_in now w = w
+
+-- one more packet behind some
+abbrev pub stepped_on : Setting → PlainConnection → PlainPacket → Stepped → Stepped
+stepped_on s k packet st = stepped_by (packet_step s k st.session packet []) st

@@ -1,5 +1,5 @@
 -- What a packet asks for, changes and is answered, given the outcomes of what it asked for: the shape of a step.
-use Rattle.std.specs.Prelude.{ℕ, Bool, true, false, ◌&&◌, List, [], ◌∷◌, Option, Some, None}
+use Rattle.std.specs.Prelude.{ℕ, ◌≡◌, Bool, true, false, ◌&&◌, List, [], ◌∷◌, Option, Some, None}
 use Rattle.topic_model.specs.Profile.{Profile, Config}
 use Rattle.topic_model.specs.StoredMessage.{StoredMessage}
 use Rattle.shard_model.specs.ShardList.{ShardList}
@@ -99,3 +99,8 @@ is_settled step = is_nil step.groups && is_nil step.closes
 -- and it changes nothing
 abbrev pub owes_nothing : Step → Bool
 owes_nothing step = is_settled step && is_nil step.changes
+
+-- all of this client
+abbrev pub AreOf : List ℕ → List Change → Type 0
+AreOf client [] = Unit {0}
+AreOf client (c ∷ changes) = (c.client ≡ client) × AreOf client changes

@@ -9,9 +9,9 @@ ghost use Rattle.turn_model.specs.PacketStep.{packet_step};
 ghost use Rattle.turn_model.specs.Worker.{Worker};
 ghost use Rattle.turn_model.specs.WorkerMoves.{WorkerMove, worker_step, worker_outs, worker_acks};
 ghost use Rattle.turn_model.specs.Records.{Stepped, stepped_all};
-ghost use Rattle.turn_model.specs.laws.CarriedLaws.{stepped_on};
+ghost use Rattle.turn_model.specs.Records.{stepped_on};
 ghost use Rattle.turn_model.specs.Allowed.{worker_allows};
-ghost use Rattle.turn_model.specs.laws.StepLaws.{AreOf};
+ghost use Rattle.turn_model.specs.Step.{AreOf};
 
 /// A law: a packet of a bound connection changes the session of its own client, and leaves that of each other client as
 /// it was, whatever the packet is and whatever was answered to what it asked for.

@@ -5,10 +5,7 @@ use Rattle.std.specs.List.{list_any}
 use Rattle.std.proofs.lemmas.Bool.{cases_eq, cases_Bool, cases_lt, eqb-true, or_cases, or_left, or_right}
 use Rattle.std.proofs.lemmas.Bool.{false_from_ne_true}
 use Rattle.session_model.specs.PlainSession.{PlainSession, is_done, done_from, complete_of}
-
--- the number is one of these
-abbrev pub has : List ℕ → ℕ → Bool
-has done number = list_any (λ (d : ℕ). d == number) done
+use Rattle.session_model.specs.PlainSession.{has}
 
 -- ---- from a number on
 

@@ -18,7 +18,7 @@ use Rattle.session_model.specs.Acting.{numbers_from, changed_session, issued_ses
 use Rattle.session_model.specs.FitsSession.{go_on, ascend, has_left, is_live, has_sweep, is_entry_of, may_be_issued}
 use Rattle.session_model.specs.FitsSession.{is_between, may_be_passed, suits}
 use Rattle.session_model.specs.Orders.{HasNumbers}
-use Rattle.session_model.specs.laws.DoneLaws.{has}
+use Rattle.session_model.specs.PlainSession.{has}
 
 -- ---- numbers that go on
 

@@ -18,13 +18,7 @@ use Rattle.shard_model.specs.Lists.{IsRow, IsList}
 use Rattle.shard_model.specs.laws.StreamLaws.{streams_of_both}
 use Rattle.shard_model.specs.laws.ListLaws.{number_is_one}
 use Rattle.shard_model.specs.laws.OrderLaws.{row_firsts}
-
--- the same generation in a later list: it ends there or later, and its messages have the same streams, with more behind
--- them
-pub record Continues (g later : HeldGeneration) : Type 0 where
-  pub same : IsSame g.cut later.cut
-  pub ends : g.end ≤ later.end
-  pub more : (more : List StreamMessage) × (later.messages ≡ g.messages ++ more)
+use Rattle.shard_model.specs.Growing.{Continues}
 
 -- ---- more messages leave the streams of those before
 

@@ -18,7 +18,8 @@ use Rattle.shard_model.specs.SweepOrder.{at_cut, held_sweep, is_behind, is_issue
 use Rattle.shard_model.specs.Lists.{IsRow, IsList}
 use Rattle.shard_model.specs.laws.ListLaws.{newest_number, not_older, not_newer, row_first}
 use Rattle.shard_model.specs.laws.OrderLaws.{newest_in_order}
-use Rattle.shard_model.specs.laws.GrownLaws.{Continues, streams_stay}
+use Rattle.shard_model.specs.laws.GrownLaws.{streams_stay}
+use Rattle.shard_model.specs.Growing.{Continues}
 use Rattle.shard_model.specs.laws.PlaceLaws.{place_left, counted_place}
 use Rattle.shard_model.specs.laws.HeldLaws.{end_of, AreHeld, held_place, held_number, held_offset, held_apart}
 use Rattle.shard_model.specs.laws.HeldLaws.{streamed_one, end_is, end_gone, list_held, Lies, list_lies, lies_in_list}

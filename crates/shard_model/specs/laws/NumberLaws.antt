@@ -8,9 +8,7 @@ use Rattle.shard_model.specs.Streams.{or_zero, in_stream, streams_from, topics_o
 use Rattle.shard_model.specs.laws.PatternLaws.{path_is, patterns_carried, path_carried}
 use Rattle.shard_model.specs.laws.StreamLaws.{learned_of_both, number_stays}
 use Rattle.shard_model.specs.laws.PathLaws.{path_comes, placed_path_kept}
-
-abbrev pub HasNumber : Path → List Path → Type 0
-HasNumber path patterns = (n : ℕ) × (number_of path patterns ≡ Some n)
+use Rattle.shard_model.specs.LearnedPath.{HasNumber}
 
 number_there : (start : ℕ) (path : Path) (paths : List Path) → has_path paths path ≡ true → (n : ℕ)
     × (number_from start path paths ≡ Some n)

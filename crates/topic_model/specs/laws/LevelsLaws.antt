@@ -7,12 +7,9 @@ use Rattle.std.proofs.lemmas.Bool.{eqb-true, true≢false}
 use Rattle.std.proofs.lemmas.List.Sums.{sum_by-cons}
 use Rattle.topic_model.specs.Levels.{pieces, onto_first, joined_by, levels_of, text_of_levels}
 use Rattle.topic_model.specs.Matching.{is_last}
+use Rattle.topic_model.specs.Levels.{parts}
 
 -- ---- the first separator
-
--- a separator ends the first piece
-abbrev pub parts : ℕ → ℕ → Bool
-parts separator b = eqb b separator
 
 -- one more element in front moves the first separator by one
 further : (separator x : ℕ) (xs : List ℕ) (n : ℕ) (ps : List (List ℕ)) →

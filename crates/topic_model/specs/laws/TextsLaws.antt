@@ -8,22 +8,7 @@ use Rattle.topic_model.specs.declared.refused.FilterRefused.TheVariants as Filte
 use Rattle.topic_model.specs.Levels.{levels_of}
 use Rattle.topic_model.specs.Texts.{most_levels, most_filter, is_empty, has, has_wildcard, has_many_levels, is_bad_plus}
 use Rattle.topic_model.specs.Texts.{has_bad_hash, topic_refusal, filter_refusal}
-
--- none of the reasons why a text is no topic name
-pub record IsTopicText (text : List ℕ) : Type 0 where
-  pub not_empty : is_empty text ≡ false
-  pub no_zero : has 0x00 text ≡ false
-  pub no_wildcard : has_wildcard text ≡ false
-  pub few_levels : length (levels_of text) ≤ most_levels
-
--- none of the reasons why a text is no filter
-pub record IsFilterText (text : List ℕ) : Type 0 where
-  pub not_empty : is_empty text ≡ false
-  pub no_zero : has 0x00 text ≡ false
-  pub short : length text ≤ most_filter
-  pub few_levels : length (levels_of text) ≤ most_levels
-  pub plus_alone : list_any is_bad_plus (levels_of text) ≡ false
-  pub hash_alone_and_last : has_bad_hash (levels_of text) ≡ false
+use Rattle.topic_model.specs.Texts.{IsTopicText, IsFilterText}
 
 -- where the answer is none, neither the first reason holds nor a later one
 passed : {T : Type 0} (reason : Bool) (refused : T) (others : Option T) →

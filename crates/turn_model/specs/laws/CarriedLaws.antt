@@ -5,10 +5,7 @@ use Rattle.turn_model.specs.PlainConnection.{PlainConnection}
 use Rattle.turn_model.specs.Step.{Setting}
 use Rattle.turn_model.specs.PacketStep.{packet_step}
 use Rattle.turn_model.specs.Records.{Stepped, stepped_by, stepped_all}
-
--- one more packet behind some
-abbrev pub stepped_on : Setting → PlainConnection → PlainPacket → Stepped → Stepped
-stepped_on s k packet st = stepped_by (packet_step s k st.session packet []) st
+use Rattle.turn_model.specs.Records.{stepped_on}
 
 pub one_more : (s : Setting) (k : PlainConnection) (packets : List PlainPacket) (packet : PlainPacket) (st : Stepped) →
     stepped_all s k (packets ++ packet ∷ []) st ≡ stepped_on s k packet (stepped_all s k packets st)

@@ -31,12 +31,9 @@ use Rattle.turn_model.specs.PublishStep.{publish_by_outcome, publish_step, pubre
 use Rattle.turn_model.specs.PublishStep.{completion_step}
 use Rattle.turn_model.specs.PacketStep.{step_unless, planned_step, packet_step, ack_step, disconnect_step, puback_event}
 use Rattle.turn_model.specs.PacketStep.{pubrec_event, breaks_interval, interval_of, passed_or_none, starts_of}
+use Rattle.turn_model.specs.Step.{AreOf}
 
 -- ---- changes of one client
-
-abbrev pub AreOf : List ℕ → List Change → Type 0
-AreOf client [] = Unit {0}
-AreOf client (c ∷ changes) = (c.client ≡ client) × AreOf client changes
 
 of_both : (client : List ℕ) (xs ys : List Change) → AreOf client xs → AreOf client ys → AreOf client (xs ++ ys)
 of_both client [] ys first second = second
