@@ -47,7 +47,7 @@ abbrev parted_of : List ℕ → ℕ → Change
 parted_of client moment = change client (Parted (record { expiry = 3600; moment = moment }))
 
 -- a CONNECT's record that goes in
-abbrev connects : ℕ → ConnectFields → List Move
+abbrev pub connects : ℕ → ConnectFields → List Move
 connects conn c = BeginCommit 0 (OfConnect conn c) 0 ∷ Commit 0 ∷ []
 
 -- ---- first: what is sent again
@@ -83,7 +83,7 @@ old_one_ends_while_it_pends = refl
 
 -- ---- two CONNECTs of one client under way at once
 
-abbrev clean_of : List ℕ → ConnectFields
+abbrev pub clean_of : List ℕ → ConnectFields
 clean_of client =
     record {
       clean = true;
@@ -254,12 +254,12 @@ unfolding running
 settled_behind_its_end = refl
 
 -- two messages are there: the second isn't issued before the first is put out
-abbrev two_messages : World
+abbrev pub two_messages : World
 two_messages =
     (final_state whole (script_of (lines (listening at_least_once ++ send two (of_hi (codes "32") (codes "07"))
     ∷ send two (of_hi (codes "32") (codes "08")) ∷ []))) []).world
 
-abbrev issues_one : ℕ → ℕ → Issues
+abbrev pub issues_one : ℕ → ℕ → Issues
 issues_one offset number =
     record (issues offset number)
     { sweep = record { generation = 0; base = 0; target = 2; stream = 0; position = offset + 1 } }
@@ -278,7 +278,7 @@ unfolding running
 the_next_batch_behind_it = refl
 
 -- a message that expires in 10 seconds goes out with what it had left at the moment of its record
-abbrev expiring : World
+abbrev pub expiring : World
 expiring =
     (final_state whole
     (script_of (lines (listening at_least_once ++ send two (codes "320F0003612F62000705020000000A6869") ∷ [])))
@@ -301,15 +301,15 @@ at_the_moment_of_its_record = refl
 -- ---- a repeat behind a Release that isn't seen yet
 
 -- `p` has published with QoS 2 and identifier 5
-abbrev stored_twice_over : World
+abbrev pub stored_twice_over : World
 stored_twice_over =
     (final_state whole (script_of (lines (listening exactly_once ++ send two (of_hi (codes "34") (codes "05")) ∷ [])))
     []).world
 
-abbrev released : PlainPacket
+abbrev pub released : PlainPacket
 released = ack Pubrel 5 0 []
 
-abbrev again_five : PlainPacket
+abbrev pub again_five : PlainPacket
 again_five =
     Publish
     (record { dup = false; qos = 2; retain = false; topic = codes "a/b"; id = 5; props = []; payload = codes "ho" })

@@ -23,3 +23,5 @@ pub mod HostileWorkers
 pub mod StageRows
 pub mod MoveRows
 pub mod HostileMoves
+pub mod LawWords
+pub mod LawRows

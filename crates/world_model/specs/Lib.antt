@@ -4,5 +4,4 @@ pub mod Text
 pub mod Running
 pub mod Computing
 pub mod Allowed
-pub mod WorldLaws
 pub mod laws

@@ -1,0 +1,11 @@
+pub mod PlaceLaws
+pub mod GoesLaws
+pub mod DueLaws
+pub mod WorkerLaws
+pub mod SeenLaws
+pub mod OwedLaws
+pub mod AwaitedLaws
+pub mod OnceLaws
+pub mod GroupLaws
+pub mod EverLaws
+pub mod AlwaysLaws
