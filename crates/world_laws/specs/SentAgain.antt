@@ -132,8 +132,9 @@ pub record IsOneMessage (s : WorldShard) (k : Worker) (client : List ℕ) (numbe
 
 abbrev pub ResendsAreTheSame : World → Type 0
 ResendsAreTheSame w =
-    (worker : ℕ) (k : Worker) (client : List ℕ) (number : ℕ) (e : Entry) (packet : PlainPacket) (s : WorldShard) →
-    HasWorker w worker k → HasShard w e.shard s → WasSent k client number e packet → IsOneMessage s k client number e
+    (worker : ℕ) (k : Worker) (client : List ℕ) (number : ℕ) (e : Entry) (packet : PlainPacket) →
+    HasWorker w worker k → WasSent k client number e packet →
+    (s : WorldShard) × (HasShard w e.shard s × IsOneMessage s k client number e)
 
 -- a PUBLISH but for DUP and for the seconds of its Message Expiry Interval, which count down
 abbrev pub without_seconds : Prop → Prop

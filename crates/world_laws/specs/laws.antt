@@ -8,4 +8,6 @@ pub mod AwaitedLaws
 pub mod OnceLaws
 pub mod GroupLaws
 pub mod EverLaws
+pub mod SameLaws
+pub mod NoteLaws
 pub mod AlwaysLaws

@@ -4,7 +4,8 @@ ghost use Rattle.world_model.specs.World.{Move, world_step};
 ghost use Rattle.world_laws.specs.Reached.{reached_world};
 ghost use Rattle.world_laws.specs.StoredLists.{AreAwaited, AreGrown, IsAllEver, StoresNoOther, TakesNothing};
 ghost use Rattle.world_laws.specs.Acknowledged.{DueComes};
-ghost use Rattle.world_laws.specs.Always.{OfShards, OfShardMoves};
+ghost use Rattle.world_laws.specs.SentAgain.{BindsAll};
+ghost use Rattle.world_laws.specs.Always.{OfShardMoves, OfShards, OfWorkerMoves};
 
 /// A law: whatever moves are made, each shard's lists are in order, what is stored has grown from what is shown, and
 /// what is shown from what each worker has seen.
@@ -44,4 +45,12 @@ pub fn a_message_is_stored_once()
 pub fn what_is_due_is_committed()
     ensures { (profile : Profile) (config : Config) (moves : List Move) →
         DueComes profile config (reached_world profile config moves) }
+{}
+
+/// A law: what a bind has to send again is all that is unfinished in its session then, in the order of issue, but for
+/// what it passes over: that is what wasn't received, and whose message is gone (MQTT 4.4).
+pub fn a_bind_takes_all_that_is_unfinished()
+    ensures { (profile : Profile) (config : Config) (moves : List Move) (move : Move) →
+        OfWorkerMoves BindsAll (reached_world profile config moves)
+        (world_step profile (reached_world profile config moves) move) }
 {}

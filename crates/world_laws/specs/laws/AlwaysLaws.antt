@@ -6,7 +6,8 @@ use Rattle.world_model.specs.World.{World, Move, opening_world, world_step, afte
 use Rattle.world_laws.specs.Reached.{reached_world, HasWorker}
 use Rattle.world_laws.specs.StoredLists.{AreGrown, IsAllEver, TakesNothing, AreAwaited, StoresNoOther}
 use Rattle.world_laws.specs.Acknowledged.{DueComes}
-use Rattle.world_laws.specs.Always.{OfShards, OfShardMoves}
+use Rattle.world_laws.specs.SentAgain.{BindsAll}
+use Rattle.world_laws.specs.Always.{OfShards, OfShardMoves, OfWorkerMoves}
 use Rattle.world_laws.specs.laws.SeenLaws.{grown_goes, opening_grown}
 use Rattle.world_laws.specs.laws.EverLaws.{opening_ever, ever_goes, takes_nothing}
 use Rattle.world_laws.specs.laws.OwedLaws.{OwesEnds, opening_owes, owes_goes}
@@ -14,6 +15,7 @@ use Rattle.world_laws.specs.laws.AwaitedLaws.{opening_awaited, awaited_goes}
 use Rattle.world_laws.specs.laws.OnceLaws.{GroupFits, opening_group_fits, stores_no_other}
 use Rattle.world_laws.specs.laws.GroupLaws.{group_fits_goes}
 use Rattle.world_laws.specs.laws.DueLaws.{due_comes}
+use Rattle.world_laws.specs.laws.NoteLaws.{binds_all}
 
 -- what each move keeps holds behind all of them
 pub kept_by_moves : (profile : Profile) (P : World → Type 0) →
@@ -80,3 +82,10 @@ stored_once profile config moves move =
 pub due_always_comes : (profile : Profile) (config : Config) (moves : List Move) →
     DueComes profile config (reached_world profile config moves)
 due_always_comes profile config moves worker k move i is_there has = due_comes profile config k i move has
+
+-- ---- what a bind notes
+
+pub binds_always : (profile : Profile) (config : Config) (moves : List Move) (move : Move) →
+    OfWorkerMoves BindsAll (reached_world profile config moves)
+    (world_step profile (reached_world profile config moves) move)
+binds_always profile config moves move = binds_all profile (reached_world profile config moves) move
