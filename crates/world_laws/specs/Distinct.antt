@@ -23,3 +23,5 @@ pub record AllAreDistinct (w : World) : Type 0 where
   pub each : (worker : ℕ) (k : Worker) → HasWorker w worker k → AreDistinct k
   pub homes : (worker other : ℕ) (k l : Worker) (m n : PlainSession) → HasWorker w worker k → HasWorker w other l →
       HasPlace (sessions_of k).list m → HasPlace (sessions_of l).list n → m.client ≡ n.client → worker ≡ other
+  pub connections : (worker other : ℕ) (k l : Worker) (c d : PlainConnection) → HasWorker w worker k →
+      HasWorker w other l → HasPlace k.connections c → HasPlace l.connections d → c.client ≡ d.client → worker ≡ other

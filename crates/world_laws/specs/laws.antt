@@ -8,6 +8,8 @@ pub mod AwaitedLaws
 pub mod OnceLaws
 pub mod GroupLaws
 pub mod EverLaws
+pub mod SessionsLaws
+pub mod DistinctLaws
 pub mod SameLaws
 pub mod NoteLaws
 pub mod AlwaysLaws

@@ -5,6 +5,7 @@ ghost use Rattle.world_laws.specs.Reached.{reached_world};
 ghost use Rattle.world_laws.specs.StoredLists.{AreAwaited, AreGrown, IsAllEver, StoresNoOther, TakesNothing};
 ghost use Rattle.world_laws.specs.Acknowledged.{DueComes};
 ghost use Rattle.world_laws.specs.SentAgain.{BindsAll};
+ghost use Rattle.world_laws.specs.Distinct.{AllAreDistinct};
 ghost use Rattle.world_laws.specs.Always.{OfShardMoves, OfShards, OfWorkerMoves};
 
 /// A law: whatever moves are made, each shard's lists are in order, what is stored has grown from what is shown, and
@@ -53,4 +54,11 @@ pub fn a_bind_takes_all_that_is_unfinished()
     ensures { (profile : Profile) (config : Config) (moves : List Move) (move : Move) →
         OfWorkerMoves BindsAll (reached_world profile config moves)
         (world_step profile (reached_world profile config moves) move) }
+{}
+
+/// A law: a client has one session and at most one connection, at one worker (MQTT 3.1.4, 4.1); and of one worker a
+/// number is of one session, and of one connection.
+pub fn clients_are_distinct()
+    ensures { (profile : Profile) (config : Config) (moves : List Move) →
+        AllAreDistinct (reached_world profile config moves) }
 {}

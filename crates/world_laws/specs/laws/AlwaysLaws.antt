@@ -7,6 +7,7 @@ use Rattle.world_laws.specs.Reached.{reached_world, HasWorker}
 use Rattle.world_laws.specs.StoredLists.{AreGrown, IsAllEver, TakesNothing, AreAwaited, StoresNoOther}
 use Rattle.world_laws.specs.Acknowledged.{DueComes}
 use Rattle.world_laws.specs.SentAgain.{BindsAll}
+use Rattle.world_laws.specs.Distinct.{AllAreDistinct}
 use Rattle.world_laws.specs.Always.{OfShards, OfShardMoves, OfWorkerMoves}
 use Rattle.world_laws.specs.laws.SeenLaws.{grown_goes, opening_grown}
 use Rattle.world_laws.specs.laws.EverLaws.{opening_ever, ever_goes, takes_nothing}
@@ -15,6 +16,7 @@ use Rattle.world_laws.specs.laws.AwaitedLaws.{opening_awaited, awaited_goes}
 use Rattle.world_laws.specs.laws.OnceLaws.{GroupFits, opening_group_fits, stores_no_other}
 use Rattle.world_laws.specs.laws.GroupLaws.{group_fits_goes}
 use Rattle.world_laws.specs.laws.DueLaws.{due_comes}
+use Rattle.world_laws.specs.laws.DistinctLaws.{WorkersAreDistinct, opening_distinct, distinct_goes, all_distinct}
 use Rattle.world_laws.specs.laws.NoteLaws.{binds_all}
 
 -- what each move keeps holds behind all of them
@@ -89,3 +91,12 @@ pub binds_always : (profile : Profile) (config : Config) (moves : List Move) (mo
     OfWorkerMoves BindsAll (reached_world profile config moves)
     (world_step profile (reached_world profile config moves) move)
 binds_always profile config moves move = binds_all profile (reached_world profile config moves) move
+
+-- ---- who is who
+
+pub always_distinct : (profile : Profile) (config : Config) (moves : List Move) →
+    AllAreDistinct (reached_world profile config moves)
+always_distinct profile config moves =
+    all_distinct (reached_world profile config moves)
+    (kept_by_moves profile WorkersAreDistinct (λ w move holds. distinct_goes profile w move holds)
+    (opening_world config) moves (opening_distinct config))

@@ -1,6 +1,7 @@
 -- Two PUBLISHes that carry one message under one version as one kind are the same but for DUP and for the seconds of
 -- the Message Expiry Interval.
-use Rattle.std.proofs.Common.{◌≡◌, ℕ, Bool, true, false, List, [], ◌∷◌, ◌++◌, filter, map, Option, Some, None, refl, sym}
+use Rattle.std.proofs.Common.{◌≡◌, ℕ, Bool, true, false, List, [], ◌∷◌, ◌++◌, filter, map, Option, Some, None, refl}
+use Rattle.std.proofs.Common.{sym}
 use Rattle.std.proofs.Common.{ap, ◌∙◌}
 use Rattle.std.specs.Prelude.{◌==◌, if◌then◌else◌, ◌-◌}
 use Rattle.std.proofs.lemmas.List.{map-append}
@@ -17,7 +18,8 @@ use Rattle.mqtt_props.specs.declared.prop.Prop.TheVariants.{Byte, Two, Four, Var
 use Rattle.mqtt_props.specs.Prop.{id_of}
 use Rattle.mqtt_props.specs.Props.{gathered, identifiers, in_writing_order}
 use Rattle.mqtt_packet.specs.Packet.{PlainPacket, PublishFields, Publish}
-use Rattle.turn_model.specs.Delivery.{delivery, delivery_with, delivered_props, expiry_props, identifier_props, publisher_props}
+use Rattle.turn_model.specs.Delivery.{delivery, delivery_with, delivered_props, expiry_props, identifier_props}
+use Rattle.turn_model.specs.Delivery.{publisher_props}
 use Rattle.turn_model.specs.Delivery.{seconds_waited}
 use Rattle.world_model.specs.World.{World}
 use Rattle.world_laws.specs.SentAgain.{without_seconds, bare_publish, IsDeliveryOf, ResendsAreTheSame}
