@@ -15,14 +15,16 @@ use Rattle.shard_model.specs.declared.sweep.Sweep.{Sweep}
 use Rattle.session_model.specs.declared.entry.Entry.{Entry}
 use Rattle.session_model.specs.declared.entry.Kind.TheVariants.{Zero}
 use Rattle.session_model.specs.PlainSession.{PlainSession, Subscription, Sessions, in_use}
+use Rattle.session_model.specs.Unfinished.{unfinished}
 use Rattle.session_model.specs.FitsSession.{changes_fit}
-use Rattle.session_model.specs.IssuedPrefix.{issued_of_topic}
+use Rattle.session_model.specs.IssuedPrefix.{issued_of_topic, issued_offsets}
 use Rattle.mqtt_packet.specs.Packet.{PlainPacket, PublishFields, Publish}
 use Rattle.mqtt_packet.specs.Spelling.{written}
-use Rattle.turn_model.specs.PlainConnection.{PlainConnection, rest_of, is_bound_to}
+use Rattle.turn_model.specs.PlainConnection.{PlainConnection, is_among, rest_of, is_bound_to}
 use Rattle.turn_model.specs.MayIssue.{same_entry, same_entries, same_kind}
 use Rattle.turn_model.specs.Step.{is_nil}
-use Rattle.turn_model.specs.Worker.{Worker, PendingRecord, Noted, Note, Out, Sent, sessions_of}
+use Rattle.turn_model.specs.Resend.{is_passed_at_bind}
+use Rattle.turn_model.specs.Worker.{Worker, PendingRecord, Noted, Bound, Note, Out, Sent, sessions_of}
 use Rattle.turn_model.specs.WorkerMoves.{WorkerMove, worker_step, worker_outs, worker_acks}
 use Rattle.turn_model.specs.WorkerMoves as Workers
 use Rattle.world_model.specs.World.{World, WorldShard, Move, Emit, Bind, Unbind, TakeOver, world_step}
@@ -150,8 +152,22 @@ prefix_in m sub shard start list =
     (map (λ (w : StoredMessage). w.offset) (wanted_of_topic sub.filter start list topic)))
     (map (λ (w : StoredMessage). w.topic) list.messages)
 
+-- of all that was ever stored too, where nothing that it wanted was dropped before it was issued
+abbrev whole_prefix : PlainSession → Subscription → ℕ → ℕ → WorldShard → List (List ℕ) → Bool
+whole_prefix m sub shard start s topic =
+    list_any (λ (w : StoredMessage).
+    nat_lt w.offset (floor_of s.shard.stored) && not (is_among w.offset (issued_offsets m sub.number shard)))
+    (wanted_of_topic sub.filter start (ever_list s) topic)
+    || begins_with (issued_of_topic m sub.number shard (ever_list s) topic)
+    (map (λ (w : StoredMessage). w.offset) (wanted_of_topic sub.filter start (ever_list s) topic))
+
+abbrev whole_prefixes : PlainSession → Subscription → ℕ → ℕ → WorldShard → Bool
+whole_prefixes m sub shard start s =
+    list_all (whole_prefix m sub shard start s) (map (λ (w : StoredMessage). w.topic) s.ever)
+
 abbrev prefix_at : PlainSession → Subscription → Option ℕ → ℕ → Option WorldShard → Bool
-prefix_at m sub (Some start) shard (Some s) = prefix_in m sub shard start s.shard.stored
+prefix_at m sub (Some start) shard (Some s) =
+    prefix_in m sub shard start s.shard.stored && whole_prefixes m sub shard start s
 prefix_at m sub start shard s = true
 
 abbrev sweep_at : Profile → Option ℕ → Option Sweep → Option ShardList → Bool
@@ -211,12 +227,24 @@ same_outs [] [] = true
 same_outs (Sent conn p ∷ outs) (Sent other q ∷ others) = (conn == other) && (same_packet p q && same_outs outs others)
 same_outs outs others = false
 
+-- what a bind notes is what is unfinished in the session, parted by what is passed over
+abbrev binds_unfinished : Worker → Note → Noted → Bool
+binds_unfinished k n (Bound again passed) =
+    list_any (λ (m : PlainSession).
+    bytes_eq m.client n.client
+    && ((m.incarnation == n.incarnation)
+    && (same_entries again (filter (λ (e : Entry). not (is_passed_at_bind m k.seen e)) (unfinished m))
+    && same_entries passed (filter (λ (e : Entry). is_passed_at_bind m k.seen e) (unfinished m)))))
+    (sessions_of k).list
+binds_unfinished k n other = true
+
 abbrev notes_tell : Profile → World → Worker → WorkerMove → Bool
 notes_tell profile w k move =
     same_outs (filter is_publish_out (worker_outs profile w.config k move))
     (filter is_publish_out (all_noted (new_notes k (worker_step profile w.config k move))))
-    && nat_le (length (worker_acks profile w.config k move))
+    && (nat_le (length (worker_acks profile w.config k move))
     (length (success_packets (worker_outs profile w.config k move)))
+    && list_all (λ (n : Note). binds_unfinished k n n.noted) (new_notes k (worker_step profile w.config k move)))
 
 abbrev tell_at : Profile → World → Option Worker → WorkerMove → Bool
 tell_at profile w None move = true

@@ -8,8 +8,13 @@ pub mod AwaitedLaws
 pub mod OnceLaws
 pub mod GroupLaws
 pub mod EverLaws
+pub mod OfEverLaws
+pub mod AnswerLaws
+pub mod AckedLaws
 pub mod SessionsLaws
 pub mod DistinctLaws
+pub mod IssuedLaws
+pub mod CommittedLaws
 pub mod SameLaws
 pub mod NoteLaws
 pub mod AlwaysLaws

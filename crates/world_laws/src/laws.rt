@@ -3,7 +3,7 @@ ghost use Rattle.topic_model.specs.Profile.{Profile, Config};
 ghost use Rattle.world_model.specs.World.{Move, world_step};
 ghost use Rattle.world_laws.specs.Reached.{reached_world};
 ghost use Rattle.world_laws.specs.StoredLists.{AreAwaited, AreGrown, IsAllEver, StoresNoOther, TakesNothing};
-ghost use Rattle.world_laws.specs.Acknowledged.{DueComes};
+ghost use Rattle.world_laws.specs.Acknowledged.{AreKept, DueComes};
 ghost use Rattle.world_laws.specs.SentAgain.{BindsAll};
 ghost use Rattle.world_laws.specs.Distinct.{AllAreDistinct};
 ghost use Rattle.world_laws.specs.Always.{OfShardMoves, OfShards, OfWorkerMoves};
@@ -61,4 +61,11 @@ pub fn a_bind_takes_all_that_is_unfinished()
 pub fn clients_are_distinct()
     ensures { (profile : Profile) (config : Config) (moves : List Move) →
         AllAreDistinct (reached_world profile config moves) }
+{}
+
+/// A law: a message whose PUBACK, or PUBREC of success, was put out was stored in its shard, at its offset (MQTT 4.3).
+/// It is held there still, or went with its generation.
+pub fn what_is_acknowledged_was_stored()
+    ensures { (profile : Profile) (config : Config) (moves : List Move) →
+        AreKept (reached_world profile config moves) }
 {}

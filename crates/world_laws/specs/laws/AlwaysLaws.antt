@@ -5,12 +5,14 @@ use Rattle.turn_model.specs.Worker.{Worker}
 use Rattle.world_model.specs.World.{World, Move, opening_world, world_step, after_moves}
 use Rattle.world_laws.specs.Reached.{reached_world, HasWorker}
 use Rattle.world_laws.specs.StoredLists.{AreGrown, IsAllEver, TakesNothing, AreAwaited, StoresNoOther}
-use Rattle.world_laws.specs.Acknowledged.{DueComes}
+use Rattle.world_laws.specs.Acknowledged.{AreKept, DueComes}
 use Rattle.world_laws.specs.SentAgain.{BindsAll}
 use Rattle.world_laws.specs.Distinct.{AllAreDistinct}
 use Rattle.world_laws.specs.Always.{OfShards, OfShardMoves, OfWorkerMoves}
 use Rattle.world_laws.specs.laws.SeenLaws.{grown_goes, opening_grown}
 use Rattle.world_laws.specs.laws.EverLaws.{opening_ever, ever_goes, takes_nothing}
+use Rattle.world_laws.specs.laws.OfEverLaws.{AreOfEver, opening_of_ever, of_ever_goes}
+use Rattle.world_laws.specs.laws.AckedLaws.{AcksWere, opening_acks, acks_go, kept}
 use Rattle.world_laws.specs.laws.OwedLaws.{OwesEnds, opening_owes, owes_goes}
 use Rattle.world_laws.specs.laws.AwaitedLaws.{opening_awaited, awaited_goes}
 use Rattle.world_laws.specs.laws.OnceLaws.{GroupFits, opening_group_fits, stores_no_other}
@@ -100,3 +102,23 @@ always_distinct profile config moves =
     all_distinct (reached_world profile config moves)
     (kept_by_moves profile WorkersAreDistinct (λ w move holds. distinct_goes profile w move holds)
     (opening_world config) moves (opening_distinct config))
+
+-- ---- acknowledged messages
+
+abbrev pub AreAcked : World → Type 0
+AreAcked w = AreGrown w × (OfShards IsAllEver w × (AreOfEver w × AcksWere w))
+
+pub always_kept : (profile : Profile) (config : Config) (moves : List Move) →
+    AreKept (reached_world profile config moves)
+always_kept profile config moves =
+    let (grown, (ever, (are, acks))) = kept_by_moves profile AreAcked (λ w move holds. step w move holds)
+    (opening_world config) moves
+    (opening_grown config, (opening_ever config, (opening_of_ever config, opening_acks config))) in
+    kept (reached_world profile config moves) ever acks
+  where
+    step : (w : World) (move : Move) → AreAcked w → AreAcked (world_step profile w move)
+    step w move (grown, (all, (are, acks))) =
+        let ever = ever_goes profile w move grown.shards all in (
+          grown_goes profile w move grown,
+          (ever, (of_ever_goes profile w move grown ever are, acks_go profile w move grown ever are acks)),
+        )

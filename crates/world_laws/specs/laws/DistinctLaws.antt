@@ -51,16 +51,16 @@ end_begins_none : (effect : Effect) → is_end effect ≡ true → begins_one ef
 end_begins_none (Began b) end = absurd (true≢false (sym end))
 end_begins_none other end = refl
 
-ends_begin_none : (changes : List Change) → AreEnds changes → HaveNoBegan changes
+pub ends_begin_none : (changes : List Change) → AreEnds changes → HaveNoBegan changes
 ends_begin_none [] ends = tt
 ends_begin_none (c ∷ changes) ends = (end_begins_none c.effect ends.0, ends_begin_none changes ends.1)
 
-none_taken : (many : ℕ) (changes : List Change) → HaveNoBegan changes → HaveNoBegan (take many changes)
+pub none_taken : (many : ℕ) (changes : List Change) → HaveNoBegan changes → HaveNoBegan (take many changes)
 none_taken zero changes none = tt
 none_taken (suc many) [] none = tt
 none_taken (suc many) (c ∷ changes) none = (none.0, none_taken many changes none.1)
 
-none_over : (ms : List PlainSession) → HaveNoBegan (map (λ (m : PlainSession). change m.client Ended) ms)
+pub none_over : (ms : List PlainSession) → HaveNoBegan (map (λ (m : PlainSession). change m.client Ended) ms)
 none_over [] = tt
 none_over (m ∷ ms) = (refl, none_over ms)
 
@@ -74,7 +74,7 @@ PendsApart is_home committed None = Unit {0}
 PendsApart is_home committed (Some p) = AreApart is_home (act_all committed (p.owed ++ p.changes))
 
 module _ (is_home : List ℕ → Bool) (w : Worker) (owes : AreEnds w.owed) (apart : AreApart is_home w.committed) where
-  sessions_apart : AreApart is_home (sessions_of w)
+  pub sessions_apart : AreApart is_home (sessions_of w)
   sessions_apart = all_apart is_home w.committed w.owed (ends_begin_none w.owed owes) apart
 
   -- a record that begins with what is owed, or with a front of it, and begins no session

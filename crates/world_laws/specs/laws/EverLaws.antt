@@ -36,7 +36,7 @@ use Rattle.world_laws.specs.laws.GoesLaws.{ShardGoes, Stays, Moves, Begins, IsLe
 -- ---- places
 
 module _ {A : Type 0} where
-  get_dropped : (n : ℕ) (xs : List A) (k : ℕ) → slice_get (drop n xs) k ≡ slice_get xs (n + k)
+  pub get_dropped : (n : ℕ) (xs : List A) (k : ℕ) → slice_get (drop n xs) k ≡ slice_get xs (n + k)
   get_dropped zero xs k = let same : k ≡ 0 + k = omega arith in ap (slice_get xs) same
   get_dropped (suc n) [] k = refl
   get_dropped (suc n) (x ∷ xs) k =
@@ -44,7 +44,7 @@ module _ {A : Type 0} where
       get_dropped n xs k ∙ ap (slice_get (x ∷ xs)) same
 
   -- what is put behind a list leaves its places
-  get_before : (xs more : List A) (k : ℕ) → k < length xs → slice_get (xs ++ more) k ≡ slice_get xs k
+  pub get_before : (xs more : List A) (k : ℕ) → k < length xs → slice_get (xs ++ more) k ≡ slice_get xs k
   get_before [] more k h = absurd (omega arith)
   get_before (x ∷ xs) more zero h = refl
   get_before (x ∷ xs) more (suc k) h = get_before xs more k (omega arith)
