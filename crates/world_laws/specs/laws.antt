@@ -15,6 +15,8 @@ pub mod SessionsLaws
 pub mod DistinctLaws
 pub mod IssuedLaws
 pub mod CommittedLaws
+pub mod PutOutLaws
+pub mod CommitStepLaws
 pub mod SameLaws
 pub mod NoteLaws
 pub mod AlwaysLaws
