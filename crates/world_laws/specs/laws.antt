@@ -17,6 +17,8 @@ pub mod IssuedLaws
 pub mod CommittedLaws
 pub mod PutOutLaws
 pub mod CommitStepLaws
+pub mod CommitMoveLaws
+pub mod AllCommittedLaws
 pub mod SameLaws
 pub mod NoteLaws
 pub mod AlwaysLaws

@@ -3,7 +3,7 @@ ghost use Rattle.topic_model.specs.Profile.{Profile, Config};
 ghost use Rattle.world_model.specs.World.{Move, world_step};
 ghost use Rattle.world_laws.specs.Reached.{reached_world};
 ghost use Rattle.world_laws.specs.StoredLists.{AreAwaited, AreGrown, IsAllEver, StoresNoOther, TakesNothing};
-ghost use Rattle.world_laws.specs.Acknowledged.{AreKept, DueComes};
+ghost use Rattle.world_laws.specs.Acknowledged.{AllAreCommitted, AreKept, DueComes};
 ghost use Rattle.world_laws.specs.SentAgain.{BindsAll};
 ghost use Rattle.world_laws.specs.Distinct.{AllAreDistinct};
 ghost use Rattle.world_laws.specs.Always.{OfShardMoves, OfShards, OfWorkerMoves};
@@ -68,4 +68,11 @@ pub fn clients_are_distinct()
 pub fn what_is_acknowledged_was_stored()
     ensures { (profile : Profile) (config : Config) (moves : List Move) →
         AreKept (reached_world profile config moves) }
+{}
+
+/// A law: nothing is put out before it is committed. Each entry of which a packet was put out on a connection, or is due
+/// there, is among those that its session was issued, as the journal holds it; so a crash forgets none of it.
+pub fn what_is_put_out_is_committed()
+    ensures { (profile : Profile) (config : Config) (moves : List Move) →
+        AllAreCommitted (reached_world profile config moves) }
 {}

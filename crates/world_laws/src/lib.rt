@@ -19,5 +19,5 @@ mod laws;
 pub use laws::{
     a_bind_takes_all_that_is_unfinished, a_message_is_stored_once, clients_are_distinct,
     lists_grow, nothing_is_taken, what_is_acknowledged_was_stored, what_is_due_is_committed,
-    what_is_held_was_stored,
+    what_is_held_was_stored, what_is_put_out_is_committed,
 };

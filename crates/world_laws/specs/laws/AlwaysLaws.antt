@@ -5,7 +5,7 @@ use Rattle.turn_model.specs.Worker.{Worker}
 use Rattle.world_model.specs.World.{World, Move, opening_world, world_step, after_moves}
 use Rattle.world_laws.specs.Reached.{reached_world, HasWorker}
 use Rattle.world_laws.specs.StoredLists.{AreGrown, IsAllEver, TakesNothing, AreAwaited, StoresNoOther}
-use Rattle.world_laws.specs.Acknowledged.{AreKept, DueComes}
+use Rattle.world_laws.specs.Acknowledged.{AreKept, AllAreCommitted, DueComes}
 use Rattle.world_laws.specs.SentAgain.{BindsAll}
 use Rattle.world_laws.specs.Distinct.{AllAreDistinct}
 use Rattle.world_laws.specs.Always.{OfShards, OfShardMoves, OfWorkerMoves}
@@ -19,6 +19,7 @@ use Rattle.world_laws.specs.laws.OnceLaws.{GroupFits, opening_group_fits, stores
 use Rattle.world_laws.specs.laws.GroupLaws.{group_fits_goes}
 use Rattle.world_laws.specs.laws.DueLaws.{due_comes}
 use Rattle.world_laws.specs.laws.DistinctLaws.{WorkersAreDistinct, opening_distinct, distinct_goes, all_distinct}
+use Rattle.world_laws.specs.laws.AllCommittedLaws.{AreAllIn, opening_in, all_in_goes, all_committed}
 use Rattle.world_laws.specs.laws.NoteLaws.{binds_all}
 
 -- what each move keeps holds behind all of them
@@ -122,3 +123,12 @@ always_kept profile config moves =
           grown_goes profile w move grown,
           (ever, (of_ever_goes profile w move grown ever are, acks_go profile w move grown ever are acks)),
         )
+
+-- ---- put out after commit
+
+pub always_committed : (profile : Profile) (config : Config) (moves : List Move) →
+    AllAreCommitted (reached_world profile config moves)
+always_committed profile config moves =
+    all_committed (reached_world profile config moves)
+    (kept_by_moves profile AreAllIn (λ w move holds. all_in_goes profile w move holds) (opening_world config) moves
+    (opening_in config))

@@ -1,6 +1,7 @@
 -- Each move of a worker, and a crash, keeps that what was put out, or is due, is committed.
 use Rattle.std.proofs.Common.{◌≡◌, ◌⊎◌, inl, inr, ℕ, zero, suc, ◌+◌, ◌<◌, Bool, true, false, ◌&&◌, not, List, [], ◌∷◌}
-use Rattle.std.proofs.Common.{◌++◌, filter, find, map, take, drop, slice_get, Option, Some, None, refl, sym, ap, subst, ◌∙◌}
+use Rattle.std.proofs.Common.{◌++◌, filter, find, map, take, drop, slice_get, Option, Some, None, refl, sym, ap, subst}
+use Rattle.std.proofs.Common.{◌∙◌}
 use Rattle.std.proofs.Common.{is_some, if◌then◌else◌}
 use Rattle.std.specs.Prelude.{◌==◌, bytes_eq}
 use Rattle.std.proofs.lemmas.Bool.{eqb-true, and_parts, true≢false}
@@ -17,8 +18,10 @@ use Rattle.mqtt_packet.specs.Packet.{PlainPacket}
 use Rattle.turn_model.specs.PlainConnection.{PlainConnection, rest_of, on_connection, after_packets}
 use Rattle.turn_model.specs.Resend.{Again, Releases, Publishes, Passes, Resent, again, entry_taken_as, entry_taken_if}
 use Rattle.turn_model.specs.Resend.{may_take, entry_taken, entries_taken, resend_of, is_passed_at_bind, entries_with}
-use Rattle.turn_model.specs.Worker.{Worker, Item, Answer, Answers, Accepts, Delivers, PendingRecord, Note, note, sessions_of}
-use Rattle.world_laws.specs.laws.PlaceLaws.{place_behind, place_cases, place_filtered, place_first, place_second, no_place}
+use Rattle.turn_model.specs.Worker.{Worker, Item, Answer, Answers, Accepts, Delivers, PendingRecord, Note, note}
+use Rattle.turn_model.specs.Worker.{sessions_of}
+use Rattle.world_laws.specs.laws.PlaceLaws.{place_behind, place_cases, place_filtered, place_first, place_second}
+use Rattle.world_laws.specs.laws.PlaceLaws.{no_place}
 use Rattle.world_laws.specs.laws.PlaceLaws.{place_in_both, place_mapped, place_through}
 use Rattle.world_laws.specs.laws.SessionsLaws.{AreApart, differ_places, place_pushed}
 use Rattle.world_laws.specs.laws.OwedLaws.{is_end, AreEnds}
@@ -44,6 +47,7 @@ module _ (from : List Entry) where
           (place_through (λ (y : Entry × Option PlainPacket). y.0) taken y old))
       at y same (inr new) =
           subst (HasPlace from) (sym (same ∙ ap (λ (z : Entry × Option PlainPacket). z.0) new)) there
+
       by : ((y : Entry × Option PlainPacket) × (HasPlace (taken ++ (e, packet) ∷ []) y × (x ≡ y.0))) → HasPlace from x
       by (y, (is, same)) = at y same (place_pushed taken (e, packet) y is)
 
@@ -66,7 +70,8 @@ module _ (from : List Entry) where
   all_within m limit now lists [] r are within = within
   all_within m limit now lists (e ∷ es) r are within =
       all_within m limit now lists es (entry_taken m limit now lists e r) (λ x has. are x (place_behind e x es has))
-      (taken_if_within (may_take (again m limit now lists e) r) (again m limit now lists e) e r (are e (0, refl)) within)
+      (taken_if_within (may_take (again m limit now lists e) r) (again m limit now lists e) e r
+      (are e (0, refl)) within)
 
 -- what is taken and what is left were to be sent again
 pub resend_within : (profile : Profile) (now : ℕ) (m : PlainSession) (c : PlainConnection) (lists : List ShardList) →
@@ -90,12 +95,26 @@ parted_from client p s m has = by (on_session_from client (changed_session (Part
         × (HasPlace s.list n × (((bytes_eq n.client client ≡ false) × (m ≡ n)) ⊎ (m ≡ changed_session (Parted p) n)))) →
         (n : PlainSession)
         × (HasPlace s.list n × ((n.client ≡ m.client) × ((n.incarnation ≡ m.incarnation) × (n.issued ≡ m.issued))))
-    by (n, (stood, inl same)) =
-        (n, (stood, (ap (λ (x : PlainSession). x.client) (sym same.1),
-        (ap (λ (x : PlainSession). x.incarnation) (sym same.1), ap (λ (x : PlainSession). x.issued) (sym same.1)))))
-    by (n, (stood, inr changed)) =
-        (n, (stood, (ap (λ (x : PlainSession). x.client) (sym changed),
-        (ap (λ (x : PlainSession). x.incarnation) (sym changed), ap (λ (x : PlainSession). x.issued) (sym changed)))))
+    by (n, (stood, inl same)) = (
+      n,
+      (
+        stood,
+        (
+          ap (λ (x : PlainSession). x.client) (sym same.1),
+          (ap (λ (x : PlainSession). x.incarnation) (sym same.1), ap (λ (x : PlainSession). x.issued) (sym same.1)),
+        ),
+      ),
+    )
+    by (n, (stood, inr changed)) = (
+      n,
+      (
+        stood,
+        (
+          ap (λ (x : PlainSession). x.client) (sym changed),
+          (ap (λ (x : PlainSession). x.incarnation) (sym changed), ap (λ (x : PlainSession). x.issued) (sym changed)),
+        ),
+      ),
+    )
 
 end_from : (client : List ℕ) (effect : Effect) → is_end effect ≡ true → (s : Sessions) (m : PlainSession) →
     HasPlace (act_effect client effect s).list m →
@@ -129,6 +148,7 @@ issued_kept is_home s ends are apart m has = by (ends_from s ends are m has)
         below =
             subst (λ (x : ℕ). x < s.next) number
             (apart.below n.incarnation (place_through (λ (m : PlainSession). m.incarnation) s.list n stood))
+
         was : WasIssued s m.client m.incarnation m.issued
         was o is_there its_client its_number e there =
             let one = differ_places (λ (m : PlainSession). m.incarnation) s.list apart.numbers is_there.0 stood.0 o n

@@ -1,7 +1,8 @@
 -- Nothing is put out before it is committed: each entry of which a packet was put out, or is due, is among those that
 -- its session was issued, as it is committed.
 use Rattle.std.proofs.Common.{◌≡◌, ◌⊎◌, inl, inr, ℕ, zero, suc, ◌+◌, ◌<◌, Bool, true, false, ◌&&◌, not, List, [], ◌∷◌}
-use Rattle.std.proofs.Common.{◌++◌, filter, find, map, take, drop, slice_get, Option, Some, None, refl, sym, ap, subst, ◌∙◌}
+use Rattle.std.proofs.Common.{◌++◌, filter, find, map, take, drop, slice_get, Option, Some, None, refl, sym, ap, subst}
+use Rattle.std.proofs.Common.{◌∙◌}
 use Rattle.std.proofs.Common.{arith}
 use Rattle.std.specs.Prelude.{◌==◌, ◌-◌, if◌then◌else◌, is_some, length, bytes_eq}
 use Rattle.std.proofs.lemmas.Bool.{eqb-true, and_parts, true≢false}
@@ -18,12 +19,14 @@ use Rattle.mqtt_packet.specs.Packet.{ConnectFields}
 use Rattle.turn_model.specs.PlainConnection.{PlainConnection, bound_session}
 use Rattle.turn_model.specs.Resend.{pass_changes}
 use Rattle.turn_model.specs.Step.{Setting, Reply, Step}
-use Rattle.turn_model.specs.ConnectStep.{connect_step, connect_changes, client_for, session_number, number_or, is_resumed_if}
+use Rattle.turn_model.specs.ConnectStep.{connect_step, connect_changes, client_for, session_number, number_or}
+use Rattle.turn_model.specs.ConnectStep.{is_resumed_if}
 use Rattle.turn_model.specs.ConnectStep.{ended_if, began_change}
 use Rattle.turn_model.specs.Worker.{Worker, Item, Answer, Answers, Accepts, Delivers, PendingRecord, sessions_of}
 use Rattle.turn_model.specs.Worker.{setting_of, connection_in, session_in}
 use Rattle.turn_model.specs.Records.{Cause, OfPackets, OfConnect, OfPump, OfTick, OfOwed, record_of, pending_if, item}
-use Rattle.turn_model.specs.Records.{packets_record, stepped_all, not_stepped, connect_record, issued_change, pump_record}
+use Rattle.turn_model.specs.Records.{packets_record, stepped_all, not_stepped, connect_record, issued_change}
+use Rattle.turn_model.specs.Records.{pump_record}
 use Rattle.turn_model.specs.Records.{delivering, tick_record, owed_record}
 use Rattle.world_laws.specs.laws.PlaceLaws.{place_found}
 use Rattle.world_laws.specs.laws.OwedLaws.{AreEnds}
@@ -95,7 +98,7 @@ module _ (k : Worker) (ends : HaveNoBegan k.owed) where
   if_in true changes i is = is refl
   if_in false changes i is = tt
 
-  packets_in : (s : Setting) (conn : ℕ) (packets : _) (c : Option PlainConnection) (m : Option PlainSession) →
+  pub packets_in : (s : Setting) (conn : ℕ) (packets : _) (c : Option PlainConnection) (m : Option PlainSession) →
       PendingIsIn k (packets_record s k conn packets c m)
   packets_in s conn packets None m = tt
   packets_in s conn packets (Some c) None = tt
@@ -108,7 +111,7 @@ module _ (k : Worker) (ends : HaveNoBegan k.owed) where
       ))
 
   -- the batch of a pump, of the session that its connection is bound to
-  pump_in : (s : Setting) (conn : ℕ) (b : Option Issues) (c : Option PlainConnection) (m : Option PlainSession) →
+  pub pump_in : (s : Setting) (conn : ℕ) (b : Option Issues) (c : Option PlainConnection) (m : Option PlainSession) →
       connection_in k conn ≡ c → session_in k conn ≡ m →
       ((m : PlainSession) → HasPlace (sessions_of k).list m → m.incarnation < (sessions_of k).next) →
       PendingIsIn k (pump_record s k conn b c m)
@@ -131,7 +134,8 @@ module _ (k : Worker) (ends : HaveNoBegan k.owed) where
       number : c.number ≡ conn
       number = eqb-true c.number conn found.1
 
-      bound : HasPlace (sessions_of k).list m × ((bytes_eq m.client c.client && (m.incarnation == c.incarnation)) ≡ true)
+      bound : HasPlace (sessions_of k).list m ×
+          ((bytes_eq m.client c.client && (m.incarnation == c.incarnation)) ≡ true)
       bound =
           place_found (λ (m : PlainSession). bytes_eq m.client c.client && (m.incarnation == c.incarnation))
           (sessions_of k).list m
@@ -164,7 +168,7 @@ module _ (k : Worker) (ends : HaveNoBegan k.owed) where
           its_client behind))
 
   -- that of a CONNECT, of the session that it began or bound
-  connect_in : (config : Config) (profile : Profile) (now conn : ℕ) (c : ConnectFields) →
+  pub connect_in : (config : Config) (profile : Profile) (now conn : ℕ) (c : ConnectFields) →
       ((m : PlainSession) → HasPlace (sessions_of k).list m → m.incarnation < (sessions_of k).next) →
       PendingIsIn k
       (connect_record (setting_of profile config now k) k conn c (connect_step (setting_of profile config now k) c))
@@ -187,7 +191,7 @@ module _ (k : Worker) (ends : HaveNoBegan k.owed) where
           (number_below_as s c (client_for s c) below (session_of (client_for s c) s.sessions) refl
           (is_resumed_if s c (session_of (client_for s c) s.sessions)) refl)
 
-  tick_in : (s : Setting) (changes : List Change) → HaveNoBegan changes → PendingIsIn k (tick_record s k changes)
+  pub tick_in : (s : Setting) (changes : List Change) → HaveNoBegan changes → PendingIsIn k (tick_record s k changes)
   tick_in s [] none = tt
   tick_in s (c ∷ changes) none = (
     none_keeping (take s.profile.changes k.owed) (take (s.profile.changes - length k.owed) (c ∷ changes))
@@ -196,7 +200,8 @@ module _ (k : Worker) (ends : HaveNoBegan k.owed) where
     tt,
   )
 
-  owed_in : (profile : Profile) (changes : List Change) → HaveNoBegan changes → PendingIsIn k (owed_record profile k changes)
+  pub owed_in : (profile : Profile) (changes : List Change) → HaveNoBegan changes → PendingIsIn k
+      (owed_record profile k changes)
   owed_in profile [] none = tt
   owed_in profile (c ∷ changes) none =
       (none_keeping (take profile.changes (c ∷ changes)) [] (none_taken profile.changes (c ∷ changes) none) tt, tt)

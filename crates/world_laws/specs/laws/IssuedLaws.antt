@@ -111,7 +111,8 @@ changed_kept s of effect client number es was n has its_client its_number e ther
 ended_kept : (s : Sessions) (of client : List ℕ) (number : ℕ) (es : List Entry) → WasIssued s client number es →
     WasIssued (record s { list = without_session of s.list }) client number es
 ended_kept s of client number es was n has its_client its_number e there =
-    was n (place_filtered (λ (m : PlainSession). not (bytes_eq m.client of)) s.list n has).0 its_client its_number e there
+    was n (place_filtered
+    (λ (m : PlainSession). not (bytes_eq m.client of)) s.list n has).0 its_client its_number e there
 
 one_kept : (s : Sessions) (of : List ℕ) (effect : Effect) → begins_one effect ≡ false → (client : List ℕ) (number : ℕ)
     (es : List Entry) → IsKept s client number es → IsKept (act_effect of effect s) client number es
@@ -128,7 +129,8 @@ all_kept s (c ∷ changes) none client number es kept =
 -- a session that begins has another number
 began_kept : (s : Sessions) (of : List ℕ) (expiry window : ℕ) (client : List ℕ) (number : ℕ) (es : List Entry) →
     IsKept s client number es →
-    IsKept (act_effect of (Began (record { incarnation = s.next; expiry = expiry; window = window })) s) client number es
+    IsKept (act_effect of
+    (Began (record { incarnation = s.next; expiry = expiry; window = window })) s) client number es
 began_kept s of expiry window client number es kept =
     (was, let below : number < s.next = kept.1 in omega arith)
   where

@@ -1,6 +1,7 @@
 -- Every move keeps that what was put out, or is due, is committed.
 use Rattle.std.proofs.Common.{◌≡◌, ◌⊎◌, inl, inr, ℕ, zero, suc, ◌+◌, ◌<◌, Bool, true, false, ◌&&◌, not, List, [], ◌∷◌}
-use Rattle.std.proofs.Common.{◌++◌, filter, find, map, take, drop, slice_get, Option, Some, None, refl, sym, ap, subst, ◌∙◌}
+use Rattle.std.proofs.Common.{◌++◌, filter, find, map, take, drop, slice_get, Option, Some, None, refl, sym, ap, subst}
+use Rattle.std.proofs.Common.{◌∙◌}
 use Rattle.std.specs.Prelude.{◌==◌, if◌then◌else◌, bytes_eq}
 use Rattle.std.proofs.lemmas.Bool.{eqb-true, and_parts, true≢false}
 use Rattle.std.proofs.lemmas.Option.{none-some, same_Some}
@@ -63,16 +64,21 @@ changed_there conn f leaves (k ∷ ks) c (zero, at) =
     by : (b : Bool) → k ≡ c →
         ((changed_if b f k).number ≡ c.number)
         × (((changed_if b f k).client ≡ c.client) × ((changed_if b f k).incarnation ≡ c.incarnation))
-    by true same =
-        (leaves.number k ∙ ap (λ (x : PlainConnection). x.number) same,
-        (leaves.client k ∙ ap (λ (x : PlainConnection). x.client) same,
-        leaves.incarnation k ∙ ap (λ (x : PlainConnection). x.incarnation) same))
-    by false same =
-        (ap (λ (x : PlainConnection). x.number) same,
-        (ap (λ (x : PlainConnection). x.client) same, ap (λ (x : PlainConnection). x.incarnation) same))
+    by true same = (
+      leaves.number k ∙ ap (λ (x : PlainConnection). x.number) same,
+      (
+        leaves.client k ∙ ap (λ (x : PlainConnection). x.client) same,
+        leaves.incarnation k ∙ ap (λ (x : PlainConnection). x.incarnation) same,
+      ),
+    )
+    by false same = (
+      ap (λ (x : PlainConnection). x.number) same,
+      (ap (λ (x : PlainConnection). x.client) same, ap (λ (x : PlainConnection). x.incarnation) same),
+    )
 
 -- one that is there was there, as it is, or before this change of the one with this number
-pub changed_from : (conn : ℕ) (f : PlainConnection → PlainConnection) (ks : List PlainConnection) (d : PlainConnection) →
+pub changed_from : (conn : ℕ) (f : PlainConnection → PlainConnection) (ks : List PlainConnection)
+    (d : PlainConnection) →
     HasPlace (on_connection conn f ks) d →
     (c : PlainConnection) × (HasPlace ks c × ((d ≡ c) ⊎ ((c.number ≡ conn) × (d ≡ f c))))
 changed_from conn f [] d has = absurd (no_place d has)
@@ -100,10 +106,17 @@ StillBound ks ls conn =
 pub bound_still : (ks ls : List PlainConnection) (s : Sessions) (conn : ℕ) (es : List Entry) → StillBound ks ls conn →
     IsBoundWith ks s conn es → IsBoundWith ls s conn es
 bound_still ks ls s conn es still (c, (has, (number, kept))) =
-    let (d, (there, (number_d, (client, incarnation)))) = still c has number in
-    (d, (there, (number_d ∙ number,
-    subst (λ (n : ℕ). IsKept s d.client n es) (sym incarnation)
-    (subst (λ (its : List ℕ). IsKept s its c.incarnation es) (sym client) kept))))
+    let (d, (there, (number_d, (client, incarnation)))) = still c has number in (
+      d,
+      (
+        there,
+        (
+          number_d ∙ number,
+          subst (λ (n : ℕ). IsKept s d.client n es) (sym incarnation)
+              (subst (λ (its : List ℕ). IsKept s its c.incarnation es) (sym client) kept),
+        ),
+      ),
+    )
 
 pub answer_still : (ks ls : List PlainConnection) (s : Sessions) (conn : ℕ) (answer : Answer) → StillBound ks ls conn →
     AnswerIsIn ks s conn answer → AnswerIsIn ls s conn answer
@@ -121,7 +134,8 @@ answer_kept ks s t conn (Accepts c client number rs) keeps is = is_below number 
     is_below : (number : ℕ) →
         ((client : List ℕ) (number : ℕ) (es : List Entry) → IsKept s client number es → IsKept t client number es) →
         number < s.next → number < t.next
-    is_below number keeps is = (keeps [] number [] ((λ m has its_client its_number e there. absurd (no_place e there)), is)).1
+    is_below number keeps is =
+        (keeps [] number [] ((λ m has its_client its_number e there. absurd (no_place e there)), is)).1
 answer_kept ks s t conn (Delivers b moment fresh) keeps (c, (has, (number, kept))) =
     (c, (has, (number, keeps c.client c.incarnation b.entries kept)))
 
@@ -233,9 +247,14 @@ put_out_left s history ks due conn are =
         AnswerIsIn (without_connection conn ks) s i.connection i.answer
     by i (has, other) =
         answer_still ks (without_connection conn ks) s i.connection i.answer
-        (λ c there number. (c,
-        (place_kept (λ (c : PlainConnection). not (c.number == conn)) ks c there
-        (ap (λ (n : ℕ). not (n == conn)) number ∙ other), (refl, (refl, refl))))) (are.due i has)
+        (λ c there number. (
+          c,
+          (
+            place_kept (λ (c : PlainConnection). not (c.number == conn)) ks c there
+                (ap (λ (n : ℕ). not (n == conn)) number ∙ other),
+            (refl, (refl, refl)),
+          ),
+        )) (are.due i has)
 
 -- ---- what pends
 
@@ -262,9 +281,14 @@ item_left ks s conn (Some i) is = by (i.connection == conn) refl
     by true own = tt
     by false other =
         answer_still ks (without_connection conn ks) s i.connection i.answer
-        (λ c there number. (c,
-        (place_kept (λ (c : PlainConnection). not (c.number == conn)) ks c there
-        (ap (λ (n : ℕ). not (n == conn)) number ∙ ap not other), (refl, (refl, refl))))) is
+        (λ c there number. (
+          c,
+          (
+            place_kept (λ (c : PlainConnection). not (c.number == conn)) ks c there
+                (ap (λ (n : ℕ). not (n == conn)) number ∙ ap not other),
+            (refl, (refl, refl)),
+          ),
+        )) is
 
 -- the same where no connection ends, but only what was under way
 pub item_dropped : (ks : List PlainConnection) (s : Sessions) (conn : ℕ) (i : Option Item) → ItemIsIn ks s i →
