@@ -70,8 +70,8 @@ pub fn what_is_acknowledged_was_stored()
         AreKept (reached_world profile config moves) }
 {}
 
-/// A law: nothing is put out before it is committed. Each entry of which a packet was put out on a connection, or is due
-/// there, is among those that its session was issued, as the journal holds it; so a crash forgets none of it.
+/// A law: nothing is put out before it is committed. Each entry of which a packet was put out on a connection, or is
+/// due there, is among those that its session was issued, as the journal holds it; so a crash forgets none of it.
 pub fn what_is_put_out_is_committed()
     ensures { (profile : Profile) (config : Config) (moves : List Move) →
         AllAreCommitted (reached_world profile config moves) }
