@@ -19,6 +19,8 @@ pub mod PutOutLaws
 pub mod CommitStepLaws
 pub mod CommitMoveLaws
 pub mod AllCommittedLaws
+pub mod EndFitLaws
+pub mod ConnectFitLaws
 pub mod SameLaws
 pub mod NoteLaws
 pub mod AlwaysLaws
