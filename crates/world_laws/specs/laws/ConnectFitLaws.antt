@@ -101,7 +101,8 @@ window_is_one : (widens takes place : Bool) (window wide : ℕ) → window < wid
     ((((if widens && (takes && place) then wide else window) == window)
     || (widens && ((if widens && (takes && place) then wide else window) == wide))) ≡ true)
     × ((((if widens && (takes && place) then wide else window) == wide) ≡ true) → place ≡ true)
-window_is_one true true true window wide less = (or_second (wide == window) (wide == wide) (eq-eqb wide wide refl), λ e. refl)
+window_is_one true true true window wide less =
+    (or_second (wide == window) (wide == wide) (eq-eqb wide wide refl), λ e. refl)
 window_is_one true true false window wide less = narrow true false window wide less
 window_is_one true false place window wide less = narrow true place window wide less
 window_is_one false takes place window wide less = narrow false place window wide less

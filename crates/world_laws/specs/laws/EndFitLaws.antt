@@ -66,7 +66,8 @@ module _ {A : Type 0} where
           length (filter counts (if b then x ∷ filter test xs else filter test xs))
           ≤ length (if c then x ∷ filter counts xs else filter counts xs)
       by true true is less =
-          rw is (let more : suc (length (filter counts (filter test xs))) ≤ suc (length (filter counts xs)) = omega arith
+          rw is (let more : suc (length (filter counts (filter test xs))) ≤ suc
+          (length (filter counts xs)) = omega arith
           in more)
       by true false is less = rw is less
       by false true is less = omega arith
@@ -378,7 +379,10 @@ parts_stay s client other expiry now differ = by (expiry == 0)
 
 owed_own : (profile : Profile) (now : ℕ) → AreOwn profile (λ (m : PlainSession). owed_to now m.parted m)
 owed_own profile now =
-    record { fit = λ s m n is has. fit s m n is has m.parted; stay = λ s m other differ. stay s m other differ m.parted }
+    record {
+      fit = λ s m n is has. fit s m n is has m.parted;
+      stay = λ s m other differ. stay s m other differ m.parted;
+    }
   where
     fit : (s : Sessions) (m n : PlainSession) → are_within profile s ≡ true → session_of m.client s ≡ Some n →
         (parted : Option ℕ) → changes_fit profile s (owed_to now parted m) ≡ true
